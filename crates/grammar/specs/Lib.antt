@@ -1,0 +1,6 @@
+pub mod Tokens
+pub mod Building
+pub mod Grammar
+pub mod Automaton
+pub mod Listing
+pub mod Limits

@@ -1,0 +1,5 @@
+pub mod Arithmetic
+pub mod Trees
+pub mod Table
+pub mod Decode
+pub mod Opens

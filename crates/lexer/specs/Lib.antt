@@ -1,0 +1,5 @@
+pub mod Spelling
+pub mod Words
+pub mod Lexemes
+pub mod Scan
+pub mod Names

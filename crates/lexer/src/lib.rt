@@ -1,0 +1,2 @@
+// From bytes to tokens. This crate is internal to the reader: its functions ask their callers to keep places small.
+pub mod token;

@@ -10,7 +10,8 @@ use Rattle.tosca.specs.declared.operators.Value.the-variants.{Number, Truth}
 use Rattle.tosca.specs.Trees as tree
 use Rattle.grammar.specs.declared.symbols.Prefix.the-variants.{Open, Not, Round}
 use Rattle.grammar.specs.declared.symbols.Start.the-variants.{Begin, If, While, Read, Write}
-use Rattle.grammar.specs.Tokens.{Tok, name, lit, op, pre, start, else′, unused, ty, mark, Item, at, Seen, no, yes}
+use Rattle.grammar.specs.declared.symbols.Mark.the-variants.{Stop}
+use Rattle.grammar.specs.Tokens.{same, Tok, name, lit, op, pre, start, else′, unused, ty, mark, Item, at, Seen, no, yes}
 use Rattle.grammar.specs.Grammar.{Deep, deep, Text, textDepths}
 use Rattle.grammar.specs.Building.{Act, builds}
 use Rattle.grammar.specs.Automaton.{Watch, run, text}
@@ -79,7 +80,7 @@ abbrev pub placedFrom : (ℕ → ℕ) → ℕ → List Tok → List Item
 placedFrom f k [] = []
 placedFrom f k (t ∷ ts) = at t (f k) ∷ placedFrom f (suc k) ts
 
--- the tokens that suffice to complete a text: the name numbered n, 0, (, begin, integer and what is only ever expected
+-- the tokens that suffice to complete a text: the name numbered n, 0, (, begin, integer and what is only ever expected, but for the end
 abbrev pub Simple : ℕ → Tok → Type 0
 Simple n (name m) = m ≡ n
 Simple n (lit (Number z)) = z ≡ pos 0
@@ -97,15 +98,31 @@ Simple n else′ = ⊥
 Simple n unused = ⊥
 Simple n (ty Integer) = Unit {0}
 Simple n (ty Boolean) = ⊥
-Simple n (mark m) = Unit {0}
+Simple n (mark m) = same m Stop ≡ false
 
 abbrev pub AllSimple : ℕ → List Tok → Type 0
 AllSimple n [] = Unit {0}
 AllSimple n (t ∷ ts) = Simple n t × AllSimple n ts
 
--- some text of the grammar begins with these tokens; what completes it is simple and may have any places
+-- some text of the grammar begins with these tokens; what completes it is simple up to the end, and may have any places
 abbrev pub Completable : List Item → Type 0
-Completable front = (n : ℕ) → (us : List Tok) × AllSimple n us × ((f : ℕ → ℕ) → (t : tree.Program ℕ) × Text (front ++ placedFrom f 0 us) t)
+Completable front = (n : ℕ) → (us : List Tok) × AllSimple n us × ((f : ℕ → ℕ) → (t : tree.Program ℕ) × Text (front ++ placedFrom f 0 (us ++ (mark Stop ∷ []))) t)
+
+abbrev pub isStop : Tok → Bool
+isStop (mark m) = same m Stop
+isStop (name n) = false
+isStop (lit l) = false
+isStop (op o) = false
+isStop (pre x) = false
+isStop (start x) = false
+isStop else′ = false
+isStop unused = false
+isStop (ty x) = false
+
+-- the end of the text stands only last, and nothing is broken after it
+abbrev pub Ends : List Item → Ending → Type 0
+Ends [] e = Unit {0}
+Ends (at t p ∷ ts) e = (isStop t ≡ true → (ts ≡ []) × (e ≡ over)) × Ends ts e
 
 -- in every text that begins with these tokens, they keep the limits
 abbrev pub Kept : List Item → Type 0
@@ -133,7 +150,7 @@ Sound S act = (s r : S) (ts : List Item) (e : Ending) → reads act s ts e ≡ a
 
 -- a refusal has its reason
 abbrev pub Reasoned : (S : Type 0) → (Act → S → S) → Type 0
-Reasoned S act = (s : S) (ts : List Item) (e : Ending) (n p : ℕ) → reads act s ts e ≡ refused n p → Refused ts e n p
+Reasoned S act = (s : S) (ts : List Item) (e : Ending) → Ends ts e → (n p : ℕ) → reads act s ts e ≡ refused n p → Refused ts e n p
 
 -- no token list has two trees
 abbrev pub OneTree : Type 0

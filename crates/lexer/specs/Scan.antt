@@ -5,10 +5,7 @@ use mathlib.Core.Path.{_≡_}
 use Prim.Native.Nat.{ℕ, zero, suc, _<_}
 use lib.Dec.{leb}
 use lib.ListN.{length}
-use Rattle.grammar.specs.declared.symbols.Mark.{Mark}
-use Rattle.grammar.specs.declared.symbols.Mark.the-variants.{Program, Var, Semicolon, Comma, Colon, Becomes, Close, Slash, Then, Do, End, Period, Stop}
-use Rattle.grammar.specs.Tokens.{Tok, lit, op, pre, start, else′, unused, ty, mark}
-use Rattle.grammar.specs.Tokens as g
+use Rattle.grammar.specs.Limits.{isStop as isStopTok}
 use Rattle.lexer.specs.Spelling.{value}
 use Rattle.lexer.specs.Lexemes.{Raw, name, number, other, Lexed, lexeme, none, lex}
 
@@ -17,32 +14,6 @@ pub data Scan : Type 0 where
   more : Raw → ℕ → Scan → Scan
   broken : ℕ → ℕ → Scan
   over : Scan
-
-abbrev pub isStopMark : Mark → Bool
-isStopMark Stop = true
-isStopMark Program = false
-isStopMark Var = false
-isStopMark Semicolon = false
-isStopMark Comma = false
-isStopMark Colon = false
-isStopMark Becomes = false
-isStopMark Close = false
-isStopMark Slash = false
-isStopMark Then = false
-isStopMark Do = false
-isStopMark End = false
-isStopMark Period = false
-
-abbrev pub isStopTok : Tok → Bool
-isStopTok (mark m) = isStopMark m
-isStopTok (g.name n) = false
-isStopTok (lit v) = false
-isStopTok (op o) = false
-isStopTok (pre x) = false
-isStopTok (start x) = false
-isStopTok else′ = false
-isStopTok unused = false
-isStopTok (ty y) = false
 
 abbrev pub isStop : Raw → Bool
 isStop (name w) = false

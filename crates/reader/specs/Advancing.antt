@@ -12,6 +12,7 @@ use Rattle.tosca.specs.declared.table.Entry.{Entry}
 use Rattle.tosca.specs.declared.table.Node.{Node}
 use Rattle.tosca.specs.Table.{entry}
 use Rattle.grammar.specs.declared.symbols.Mark.{Mark}
+use Rattle.grammar.specs.declared.symbols.Prefix.the-variants.{Open, Not, Round}
 use Rattle.grammar.specs.Tokens.{Tok, name, lit, op, pre, start, else′, unused, ty, mark, Item, at, Seen, no, yes, same}
 use Rattle.grammar.specs.Limits.{Ending, bad}
 use Rattle.lexer.specs.declared.token.Question.{Question}
@@ -86,6 +87,29 @@ pub data Missed (m : Mark) (p : Parser) (e : Refusal) : Type 0 where
 abbrev pub Expected : {A : Type 0} → Mark → Parser → Parser → Result A Refusal → Type 0
 Expected m p q (Ok u) = Read p (mark m) q
 Expected m p q (Err e) = Missed m p e
+
+-- the token opens a bracket
+abbrev pub isOpen : Tok → Bool
+isOpen (pre Open) = true
+isOpen (pre Not) = false
+isOpen (pre Round) = false
+isOpen (name n) = false
+isOpen (mark x) = false
+isOpen (lit l) = false
+isOpen (op o) = false
+isOpen (start x) = false
+isOpen else′ = false
+isOpen unused = false
+isOpen (ty y) = false
+
+-- a bracket was expected
+pub data Closed (p : Parser) (e : Refusal) : Type 0 where
+  another : isOpen (next p) ≡ false → e ≡ refuses Grammar (p .place) → Closed p e
+  cut : Broken p (pre Open) e → Closed p e
+
+abbrev pub Opened : {A : Type 0} → Parser → Parser → Result A Refusal → Type 0
+Opened p q (Ok u) = Read p (pre Open) q
+Opened p q (Err e) = Closed p e
 
 -- a name was expected
 pub data Nameless (p : Parser) (e : Refusal) : Type 0 where

@@ -2,3 +2,5 @@
 pub mod names;
 pub mod parser;
 pub mod advancing;
+pub mod leaves;
+pub mod expressions;

@@ -1,2 +1,4 @@
 pub mod Chains
 pub mod Loops
+pub mod Levels
+pub mod Operands

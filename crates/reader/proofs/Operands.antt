@@ -5,6 +5,7 @@ use mathlib.Core.List.{List, [], _∷_, _++_}
 use Prim.Native.Nat.{ℕ, suc, _+_, _*_, _≤_, _<_}
 use native.Mathlib.Numerals.{add-one}
 use native.Mathlib.Omega.{arith}
+use Rattle.std.specs.declared.result.Result.{Result}
 use Rattle.std.specs.declared.result.Result.the-variants.{Ok, Err}
 use Rattle.tosca.specs.declared.operators.Value.{Value}
 use Rattle.tosca.specs.declared.operators.Unary.the-variants as unary
@@ -29,7 +30,7 @@ use Rattle.lexer.specs.Lexemes.{meant, other}
 use Rattle.lexer.specs.Names.{tok}
 use Rattle.reader.specs.declared.parser.Parser.{Parser}
 use Rattle.reader.specs.Feeds.{Feed, more, knownOf, ahead, next, unread, Ready}
-use Rattle.reader.specs.Advancing.{Read, Broken, Listed, Missed, another, cut, Closed, Nameless, many, refuses, isMark, isName}
+use Rattle.reader.specs.Advancing.{Read, Broken, Listed, Missed, another, cut, Closed, Nameless, many, refuses, isMark, isName, isMinus}
 use Rattle.reader.specs.Advancing as adv
 use Rattle.reader.specs.Parsing.{reading, Goes, Stops, Takes, Parsed}
 use Rattle.reader.proofs.Chains.{chain, chain-stop, above, above-stop, moves, from-feed, from-count, stop-feed, stop-count, reads, stucks, too-deep, too-many, breaks, leaves, lists, doing}
@@ -75,8 +76,10 @@ pub expr-alone : (d a : ℕ) (p q : Parser) (T T′ : List Entry) → Parsed sim
 expr-alone d a p q T T′ f unseen = λ L mk. chain (expr-opens d a p q T T′ f L mk) (passed relations q L unseen)
 
 -- a leading minus
-minus-next : (t : Tok) → yes Minus ≡ asAdd t → t ≡ op (Add Minus)
-minus-next (op (Add x)) e = let f : x ≡ Minus = cc in ap (λ v. op (Add v)) f
+minus-next : (t : Tok) → isMinus t ≡ true → t ≡ op (Add Minus)
+minus-next (op (Add Minus)) e = refl
+minus-next (op (Add Plus)) e = absurd (let z : _≡_ {A = ℕ} 0 1 = cc in omega arith)
+minus-next (op (Add Or)) e = absurd (let z : _≡_ {A = ℕ} 0 1 = cc in omega arith)
 minus-next (op (Mul x)) e = absurd (let z : _≡_ {A = ℕ} 0 1 = cc in omega arith)
 minus-next (op (Rel x)) e = absurd (let z : _≡_ {A = ℕ} 0 1 = cc in omega arith)
 minus-next (name x) e = absurd (let z : _≡_ {A = ℕ} 0 1 = cc in omega arith)
@@ -88,22 +91,22 @@ minus-next (mark x) e = absurd (let z : _≡_ {A = ℕ} 0 1 = cc in omega arith)
 minus-next else′ e = absurd (let z : _≡_ {A = ℕ} 0 1 = cc in omega arith)
 minus-next unused e = absurd (let z : _≡_ {A = ℕ} 0 1 = cc in omega arith)
 
-pub minus-ok : (d n r : ℕ) → d ≤ 32 → (p q e z : Parser) (T T′ T″ : List Entry) → yes Minus ≡ asAdd (next p) → Read p (next p) q → Parsed term d q T e T′ (Ok n) → Listed e T′ (Uny unary.Negate n) (p .place) r z T″ → Takes (λ L. simple ∷ L) (λ L. simples ∷ L) d p T z T″ (Ok r)
+pub minus-ok : (d n r : ℕ) → d ≤ 32 → (p q e z : Parser) (T T′ T″ : List Entry) → isMinus (next p) ≡ true → Read p (next p) q → Parsed term d q T e T′ (Ok n) → Listed e T′ (Uny unary.Negate n) (p .place) r z T″ → Takes (λ L. simple ∷ L) (λ L. simples ∷ L) d p T z T″ (Ok r)
 minus-ok d n r le p q e z T T′ T″ m rd f l = λ L mk.
     chain (read-token (subst (λ t. Read p t q) (minus-next (next p) m) rd) (λ s. refl) (subst (λ k. k ≤ 32) (sym mk) le) refl)
     (chain (f (does (aUny (p .place) unary.Negate) ∷ simples ∷ L) mk) (lists (aUny (p .place) unary.Negate) (λ V es. refl) l))
 
-pub minus-broken : (d : ℕ) → d ≤ 32 → (p z : Parser) (T T″ : List Entry) (r : Refusal) → yes Minus ≡ asAdd (next p) → Broken p (next p) r → Takes (λ L. simple ∷ L) (λ L. simples ∷ L) d p T z T″ (Err r)
+pub minus-broken : (d : ℕ) → d ≤ 32 → (p z : Parser) (T T″ : List Entry) (r : Refusal) → isMinus (next p) ≡ true → Broken p (next p) r → Takes (λ L. simple ∷ L) (λ L. simples ∷ L) d p T z T″ (Err r)
 minus-broken d le p z T T″ r m b = λ L mk. read-broken {K = term ∷ does (aUny (p .place) unary.Negate) ∷ simples ∷ L} p (subst (λ t. Broken p t r) (minus-next (next p) m) b) (λ s. refl) (subst (λ k. k ≤ 32) (sym mk) le) refl
 
-pub minus-refused : (d : ℕ) → d ≤ 32 → (p q z : Parser) (T T″ : List Entry) (r : Refusal) → yes Minus ≡ asAdd (next p) → Read p (next p) q → Parsed term d q T z T″ (Err r) → Takes (λ L. simple ∷ L) (λ L. simples ∷ L) d p T z T″ (Err r)
+pub minus-refused : (d : ℕ) → d ≤ 32 → (p q z : Parser) (T T″ : List Entry) (r : Refusal) → isMinus (next p) ≡ true → Read p (next p) q → Parsed term d q T z T″ (Err r) → Takes (λ L. simple ∷ L) (λ L. simples ∷ L) d p T z T″ (Err r)
 minus-refused d le p q z T T″ r m rd f = λ L mk.
     chain-stop (read-token (subst (λ t. Read p t q) (minus-next (next p) m) rd) (λ s. refl) (subst (λ k. k ≤ 32) (sym mk) le) refl)
     (f (does (aUny (p .place) unary.Negate) ∷ simples ∷ L) mk)
 
 -- without a minus, a simple expression begins with a term
-no-minus : (t : Tok) → (yes Minus ≡ asAdd t → ⊥) → (L : List Sym) (s : Listing) (p : ℕ) → step list (simple ∷ L) s t p ≡ step list (term ∷ simples ∷ L) s t p
-no-minus (op (Add Minus)) h L s p = absurd (h refl)
+no-minus : (t : Tok) → isMinus t ≡ false → (L : List Sym) (s : Listing) (p : ℕ) → step list (simple ∷ L) s t p ≡ step list (term ∷ simples ∷ L) s t p
+no-minus (op (Add Minus)) h L s p = absurd (let z : _≡_ {A = ℕ} 0 1 = cc in omega arith)
 no-minus (op (Add Plus)) h L s p = refl
 no-minus (op (Add Or)) h L s p = refl
 no-minus (op (Mul x)) h L s p = refl
@@ -117,10 +120,10 @@ no-minus (mark x) h L s p = refl
 no-minus else′ h L s p = refl
 no-minus unused h L s p = refl
 
-pub no-minus-ok : (d n : ℕ) (p z : Parser) (T T″ : List Entry) → (yes Minus ≡ asAdd (next p) → ⊥) → Parsed term d p T z T″ (Ok n) → Takes (λ L. simple ∷ L) (λ L. simples ∷ L) d p T z T″ (Ok n)
+no-minus-ok : (d n : ℕ) (p z : Parser) (T T″ : List Entry) → isMinus (next p) ≡ false → Parsed term d p T z T″ (Ok n) → Takes (λ L. simple ∷ L) (λ L. simples ∷ L) d p T z T″ (Ok n)
 no-minus-ok d n p z T T″ h f = λ L mk. chain (alike p (λ s. no-minus (next p) h L s (p .place))) (f (simples ∷ L) mk)
 
-pub no-minus-refused : (d : ℕ) (p z : Parser) (T T″ : List Entry) (r : Refusal) → (yes Minus ≡ asAdd (next p) → ⊥) → Parsed term d p T z T″ (Err r) → Takes (λ L. simple ∷ L) (λ L. simples ∷ L) d p T z T″ (Err r)
+no-minus-refused : (d : ℕ) (p z : Parser) (T T″ : List Entry) (r : Refusal) → isMinus (next p) ≡ false → Parsed term d p T z T″ (Err r) → Takes (λ L. simple ∷ L) (λ L. simples ∷ L) d p T z T″ (Err r)
 no-minus-refused d p z T T″ r h f = λ L mk. chain-stop (alike p (λ s. no-minus (next p) h L s (p .place))) (f (simples ∷ L) mk)
 
 -- the next token, where it is known as it is written
@@ -258,3 +261,8 @@ module _ (d i : ℕ) (p q : Parser) (T : List Entry) (deeper : i ≡ d + 1) (lt 
 
           pub round-ok : (r : ℕ) (c z : Parser) (T′ : List Entry) → Read x (mark Close) c → Listed c T2 (Bin a binary.Round b) (p .place) r z T′ → Parsed factor d p T z T′ (Ok r)
           round-ok r c z T′ closed l = λ L mk. chain (round-close L mk) (chain (read-token closed (λ s. refl) (omega (arith, mk)) refl) (chain (lists (aBin (p .place) binary.Round) (λ V es. refl) l) leaves))
+
+-- either way, without a minus
+pub no-minus-either : (d : ℕ) (p z : Parser) (T T″ : List Entry) (r : Result ℕ Refusal) → isMinus (next p) ≡ false → Parsed term d p T z T″ r → Takes (λ L. simple ∷ L) (λ L. simples ∷ L) d p T z T″ r
+no-minus-either d p z T T″ (Ok n) h f = no-minus-ok d n p z T T″ h f
+no-minus-either d p z T T″ (Err e) h f = no-minus-refused d p z T T″ e h f

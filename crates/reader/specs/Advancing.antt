@@ -12,6 +12,9 @@ use Rattle.tosca.specs.declared.table.Entry.{Entry}
 use Rattle.tosca.specs.declared.table.Node.{Node}
 use Rattle.tosca.specs.Table.{entry}
 use Rattle.grammar.specs.declared.symbols.Mark.{Mark}
+use Rattle.grammar.specs.declared.symbols.Operator.{Operator}
+use Rattle.grammar.specs.declared.symbols.Operator.the-variants.{Mul, Add, Rel}
+use Rattle.grammar.specs.declared.symbols.Adding.the-variants.{Plus, Minus, Or}
 use Rattle.grammar.specs.declared.symbols.Prefix.the-variants.{Open, Not, Round}
 use Rattle.grammar.specs.Tokens.{Tok, name, lit, op, pre, start, else′, unused, ty, mark, Item, at, Seen, no, yes, same}
 use Rattle.grammar.specs.Limits.{Ending, bad}
@@ -101,6 +104,24 @@ isOpen (start x) = false
 isOpen else′ = false
 isOpen unused = false
 isOpen (ty y) = false
+
+abbrev pub isMinusOp : Operator → Bool
+isMinusOp (Add Minus) = true
+isMinusOp (Add Plus) = false
+isMinusOp (Add Or) = false
+isMinusOp (Mul o) = false
+isMinusOp (Rel o) = false
+
+abbrev pub isMinus : Tok → Bool
+isMinus (op o) = isMinusOp o
+isMinus (pre x) = false
+isMinus (name n) = false
+isMinus (mark x) = false
+isMinus (lit l) = false
+isMinus (start x) = false
+isMinus else′ = false
+isMinus unused = false
+isMinus (ty y) = false
 
 -- a bracket was expected
 pub data Closed (p : Parser) (e : Refusal) : Type 0 where

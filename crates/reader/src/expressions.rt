@@ -10,9 +10,7 @@ ghost use Rattle.reader.specs.Feeds.{ahead, unread, Ready};
 ghost use Rattle.reader.specs.Parsing.{Parsed, Takes, Less};
 use crate::leaves::number;
 use crate::parser::Parser;
-use grammar::symbols::Adding;
 use grammar::symbols::Mark;
-use grammar::symbols::Operator;
 use grammar::symbols::Prefix;
 use lexer::token::Question;
 use lexer::token::Refusal;
@@ -64,15 +62,13 @@ impl<'a> Parser<'a> {
         ensures less { λ r. ⌜ Less 0 (now (self .entry)) (now (self .exit)) r ⌝ }
         ensures is { λ r. ⌜ Takes (λ L. simple ∷ L) (λ L. simples ∷ L) depth (now (self .entry)) (now (table .entry)) (now (self .exit)) (now (table .exit)) r ⌝ }
     {
-        let place = self.place;
-        match self.adding() {
-            Some(Adding::Minus) => {
-                self.advance()?;
-                let part = self.term(table, depth)?;
-                Ok(self.emit(table, Node::Uny(Unary::Negate, part), place))
-            }
-            _ => self.term(table, depth),
+        if !self.is_minus() {
+            return self.term(table, depth);
         }
+        let place = self.place;
+        self.advance()?;
+        let part = self.term(table, depth)?;
+        Ok(self.emit(table, Node::Uny(Unary::Negate, part), place))
     }
 
     // factor {(* | div | and) factor}

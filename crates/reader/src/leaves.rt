@@ -10,9 +10,11 @@ ghost use Rattle.lexer.specs.Lexemes.{number as digitsOf};
 ghost use Rattle.lexer.specs.Scan.{limit};
 ghost use Rattle.lexer.specs.Spelling.{value as valueOf};
 ghost use Rattle.reader.specs.Feeds.{ahead, next, unread, Ready};
-ghost use Rattle.reader.specs.Advancing.{plain, isName, Opened};
+ghost use Rattle.reader.specs.Advancing.{plain, isName, isMinus, Opened};
 ghost use Rattle.reader.specs.Parsing.{Parsed, Less};
 use crate::parser::Parser;
+use grammar::symbols::Adding;
+use grammar::symbols::Operator;
 use grammar::symbols::Prefix;
 use lexer::token::Question;
 use lexer::token::Refusal;
@@ -38,6 +40,16 @@ impl<'a> Parser<'a> {
         match self.token {
             Token::Prefix(Prefix::Open) => self.advance(),
             _ => Err(self.refuse(Question::Grammar)),
+        }
+    }
+
+    // Whether the next token is a minus.
+    pub fn is_minus(&self) -> bool
+        ensures { λ r. ⌜ r ≡ isMinus (next (now (self .entry))) ⌝ }
+    {
+        match self.token {
+            Token::Operator(Operator::Add(Adding::Minus)) => true,
+            _ => false,
         }
     }
 

@@ -43,5 +43,3 @@ pub enum Node {
     Output(u16),
     Program(u16),
 }
-
-pub const BLANK: Entry = Entry { kind: 0, op: 0, typ: 0, name: 0, value: 0, first: 0, second: 0, third: 0, place: 0 };

@@ -1,4 +1,6 @@
 // The node table: its entries are plain numbers, and this module alone knows their codes.
+ghost use mathlib.Core.Path.{_≡_};
+ghost use Rattle.tosca.specs.Table.{typeCode, typeOf, unaryCode, unaryOf, binaryCode, binaryOf, constant as constantOf, entry as entryOf, node as nodeOf};
 use crate::operators::Binary;
 use crate::operators::SimpleType;
 use crate::operators::Unary;
@@ -42,4 +44,170 @@ pub enum Node {
     Input(u16),
     Output(u16),
     Program(u16),
+}
+
+// An entry that is no node.
+pub const BLANK: Entry = Entry {
+    kind: 0,
+    op: 0,
+    typ: 0,
+    name: 0,
+    value: 0,
+    first: 0,
+    second: 0,
+    third: 0,
+    place: 0,
+};
+
+// The codes of the kinds.
+const DECL: u8 = 1;
+const CONST: u8 = 2;
+const VAR: u8 = 3;
+const UNY: u8 = 4;
+const BIN: u8 = 5;
+const SKIP: u8 = 6;
+const ASSIGN: u8 = 7;
+const SEQ: u8 = 8;
+const CHOICE: u8 = 9;
+const LOOP: u8 = 10;
+const INPUT: u8 = 11;
+const OUTPUT: u8 = 12;
+const PROGRAM: u8 = 13;
+
+impl SimpleType {
+    fn code(self) -> u8
+        ensures { λ r. ⌜ r ≡ typeCode self ⌝ }
+    {
+        match self {
+            SimpleType::Integer => 1,
+            SimpleType::Boolean => 2,
+        }
+    }
+
+    fn from_code(c: u8) -> Option<SimpleType>
+        ensures { λ r. ⌜ r ≡ typeOf c ⌝ }
+    {
+        match c {
+            1 => Some(SimpleType::Integer),
+            2 => Some(SimpleType::Boolean),
+            _ => None,
+        }
+    }
+}
+
+impl Unary {
+    fn code(self) -> u8
+        ensures { λ r. ⌜ r ≡ unaryCode self ⌝ }
+    {
+        match self {
+            Unary::Negate => 1,
+            Unary::Not => 2,
+        }
+    }
+
+    fn from_code(c: u8) -> Option<Unary>
+        ensures { λ r. ⌜ r ≡ unaryOf c ⌝ }
+    {
+        match c {
+            1 => Some(Unary::Negate),
+            2 => Some(Unary::Not),
+            _ => None,
+        }
+    }
+}
+
+impl Binary {
+    fn code(self) -> u8
+        ensures { λ r. ⌜ r ≡ binaryCode self ⌝ }
+    {
+        match self {
+            Binary::Add => 3,
+            Binary::Subtract => 4,
+            Binary::Multiply => 5,
+            Binary::Divide => 6,
+            Binary::Round => 7,
+            Binary::Less => 8,
+            Binary::Greater => 9,
+            Binary::Equal => 10,
+            Binary::And => 11,
+            Binary::Or => 12,
+        }
+    }
+
+    fn from_code(c: u8) -> Option<Binary>
+        ensures { λ r. ⌜ r ≡ binaryOf c ⌝ }
+    {
+        match c {
+            3 => Some(Binary::Add),
+            4 => Some(Binary::Subtract),
+            5 => Some(Binary::Multiply),
+            6 => Some(Binary::Divide),
+            7 => Some(Binary::Round),
+            8 => Some(Binary::Less),
+            9 => Some(Binary::Greater),
+            10 => Some(Binary::Equal),
+            11 => Some(Binary::And),
+            12 => Some(Binary::Or),
+            _ => None,
+        }
+    }
+}
+
+// A constant's value by its type: a truth value is 0 or 1.
+fn constant(typ: SimpleType, value: i32) -> Option<Value>
+    ensures { λ r. ⌜ r ≡ constantOf typ value ⌝ }
+{
+    match (typ, value) {
+        (SimpleType::Integer, _) => Some(Value::Number(value)),
+        (SimpleType::Boolean, 0) => Some(Value::Truth(false)),
+        (SimpleType::Boolean, 1) => Some(Value::Truth(true)),
+        (SimpleType::Boolean, _) => None,
+    }
+}
+
+impl Entry {
+    // The entry of a node at a place of the text.
+    pub fn new(node: Node, place: u16) -> Entry
+        ensures { λ r. ⌜ r ≡ entryOf node place ⌝ }
+    {
+        let blank = Entry { place, ..BLANK };
+        match node {
+            Node::Decl(name, typ) => Entry { kind: DECL, name, typ: typ.code(), ..blank },
+            Node::Const(Value::Number(value)) => Entry { kind: CONST, typ: SimpleType::Integer.code(), value, ..blank },
+            Node::Const(Value::Truth(b)) => Entry { kind: CONST, typ: SimpleType::Boolean.code(), value: b as i32, ..blank },
+            Node::Var(name) => Entry { kind: VAR, name, ..blank },
+            Node::Uny(op, first) => Entry { kind: UNY, op: op.code(), first, ..blank },
+            Node::Bin(first, op, second) => Entry { kind: BIN, op: op.code(), first, second, ..blank },
+            Node::Skip => Entry { kind: SKIP, ..blank },
+            Node::Assign(name, first) => Entry { kind: ASSIGN, name, first, ..blank },
+            Node::Seq(first, second) => Entry { kind: SEQ, first, second, ..blank },
+            Node::Choice(first, second, third) => Entry { kind: CHOICE, first, second, third, ..blank },
+            Node::Loop(first, second) => Entry { kind: LOOP, first, second, ..blank },
+            Node::Input(name) => Entry { kind: INPUT, name, ..blank },
+            Node::Output(first) => Entry { kind: OUTPUT, first, ..blank },
+            Node::Program(first) => Entry { kind: PROGRAM, first, ..blank },
+        }
+    }
+
+    // What the entry says, if it says anything; fields that its kind lacks do not matter.
+    pub fn node(&self) -> Option<Node>
+        ensures { λ r. ⌜ r ≡ nodeOf (now (self .entry)) ⌝ }
+    {
+        match self.kind {
+            DECL => Some(Node::Decl(self.name, SimpleType::from_code(self.typ)?)),
+            CONST => Some(Node::Const(constant(SimpleType::from_code(self.typ)?, self.value)?)),
+            VAR => Some(Node::Var(self.name)),
+            UNY => Some(Node::Uny(Unary::from_code(self.op)?, self.first)),
+            BIN => Some(Node::Bin(self.first, Binary::from_code(self.op)?, self.second)),
+            SKIP => Some(Node::Skip),
+            ASSIGN => Some(Node::Assign(self.name, self.first)),
+            SEQ => Some(Node::Seq(self.first, self.second)),
+            CHOICE => Some(Node::Choice(self.first, self.second, self.third)),
+            LOOP => Some(Node::Loop(self.first, self.second)),
+            INPUT => Some(Node::Input(self.name)),
+            OUTPUT => Some(Node::Output(self.first)),
+            PROGRAM => Some(Node::Program(self.first)),
+            _ => None,
+        }
+    }
 }

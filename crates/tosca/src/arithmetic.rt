@@ -82,5 +82,9 @@ fn rounded_size(n: u32, d: u32) -> u32
 fn with_sign(a: i32, b: i32, size: u32) -> i64
     ensures { λ r. ⌜ r ≡ signed a b size ⌝ }
 {
-    if (a < 0) == (b < 0) { size as i64 } else { -(size as i64) }
+    if (a < 0) == (b < 0) {
+        size as i64
+    } else {
+        -(size as i64)
+    }
 }

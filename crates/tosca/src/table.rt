@@ -1,16 +1,16 @@
 // The node table: its entries are plain numbers, and this module alone knows their codes.
 ghost use mathlib.Core.Path.{_≡_};
-ghost use Rattle.tosca.specs.Table.{typeCode, typeOf, unaryCode, unaryOf, binaryCode, binaryOf, constant as constantOf, entry as entryOf, node as nodeOf};
+ghost use Rattle.tosca.specs.Table.{typeCode, typeOf, unaryCode, unaryOf, binaryCode, binaryOf, constant as constantOf, fields, entry as entryOf, node as nodeOf};
 use crate::operators::Binary;
-use crate::operators::SimpleType;
-use crate::operators::Unary;
-use crate::operators::Value;
 use crate::operators::BinaryDebug;
 use crate::operators::BinaryPartialEq;
+use crate::operators::SimpleType;
 use crate::operators::SimpleTypeDebug;
 use crate::operators::SimpleTypePartialEq;
+use crate::operators::Unary;
 use crate::operators::UnaryDebug;
 use crate::operators::UnaryPartialEq;
+use crate::operators::Value;
 use crate::operators::ValueDebug;
 use crate::operators::ValuePartialEq;
 
@@ -61,17 +61,29 @@ pub const BLANK: Entry = Entry {
 
 // The codes of the kinds.
 const DECL: u8 = 1;
+
 const CONST: u8 = 2;
+
 const VAR: u8 = 3;
+
 const UNY: u8 = 4;
+
 const BIN: u8 = 5;
+
 const SKIP: u8 = 6;
+
 const ASSIGN: u8 = 7;
+
 const SEQ: u8 = 8;
+
 const CHOICE: u8 = 9;
+
 const LOOP: u8 = 10;
+
 const INPUT: u8 = 11;
+
 const OUTPUT: u8 = 12;
+
 const PROGRAM: u8 = 13;
 
 impl SimpleType {
@@ -172,20 +184,71 @@ impl Entry {
     {
         let blank = Entry { place, ..BLANK };
         match node {
-            Node::Decl(name, typ) => Entry { kind: DECL, name, typ: typ.code(), ..blank },
-            Node::Const(Value::Number(value)) => Entry { kind: CONST, typ: SimpleType::Integer.code(), value, ..blank },
-            Node::Const(Value::Truth(b)) => Entry { kind: CONST, typ: SimpleType::Boolean.code(), value: b as i32, ..blank },
-            Node::Var(name) => Entry { kind: VAR, name, ..blank },
-            Node::Uny(op, first) => Entry { kind: UNY, op: op.code(), first, ..blank },
-            Node::Bin(first, op, second) => Entry { kind: BIN, op: op.code(), first, second, ..blank },
-            Node::Skip => Entry { kind: SKIP, ..blank },
-            Node::Assign(name, first) => Entry { kind: ASSIGN, name, first, ..blank },
-            Node::Seq(first, second) => Entry { kind: SEQ, first, second, ..blank },
-            Node::Choice(first, second, third) => Entry { kind: CHOICE, first, second, third, ..blank },
-            Node::Loop(first, second) => Entry { kind: LOOP, first, second, ..blank },
-            Node::Input(name) => Entry { kind: INPUT, name, ..blank },
-            Node::Output(first) => Entry { kind: OUTPUT, first, ..blank },
-            Node::Program(first) => Entry { kind: PROGRAM, first, ..blank },
+            Node::Decl(name, typ) => blank.of(DECL).with_name(name).with_type(typ),
+            Node::Const(Value::Number(n)) => {
+                blank.of(CONST).with_type(SimpleType::Integer).with_value(n)
+            }
+            Node::Const(Value::Truth(b)) => {
+                blank
+                    .of(CONST)
+                    .with_type(SimpleType::Boolean)
+                    .with_value(b as i32)
+            }
+            Node::Var(name) => blank.of(VAR).with_name(name),
+            Node::Uny(op, a) => blank.of(UNY).with_op(op.code()).with_parts(a, 0, 0),
+            Node::Bin(a, op, b) => blank.of(BIN).with_op(op.code()).with_parts(a, b, 0),
+            Node::Skip => blank.of(SKIP),
+            Node::Assign(name, a) => blank.of(ASSIGN).with_name(name).with_parts(a, 0, 0),
+            Node::Seq(a, b) => blank.of(SEQ).with_parts(a, b, 0),
+            Node::Choice(a, b, c) => blank.of(CHOICE).with_parts(a, b, c),
+            Node::Loop(a, b) => blank.of(LOOP).with_parts(a, b, 0),
+            Node::Input(name) => blank.of(INPUT).with_name(name),
+            Node::Output(a) => blank.of(OUTPUT).with_parts(a, 0, 0),
+            Node::Program(a) => blank.of(PROGRAM).with_parts(a, 0, 0),
+        }
+    }
+
+    fn of(self, kind: u8) -> Entry
+        ensures { λ r. ⌜ r ≡ fields kind (self .op) (self .typ) (self .name) (self .value) (self .first) (self .second) (self .third) (self .place) ⌝ }
+    {
+        Entry { kind, ..self }
+    }
+
+    fn with_op(self, op: u8) -> Entry
+        ensures { λ r. ⌜ r ≡ fields (self .kind) op (self .typ) (self .name) (self .value) (self .first) (self .second) (self .third) (self .place) ⌝ }
+    {
+        Entry { op, ..self }
+    }
+
+    fn with_type(self, typ: SimpleType) -> Entry
+        ensures { λ r. ⌜ r ≡ fields (self .kind) (self .op) (typeCode typ) (self .name) (self .value) (self .first) (self .second) (self .third) (self .place) ⌝ }
+    {
+        Entry {
+            typ: typ.code(),
+            ..self
+        }
+    }
+
+    fn with_name(self, name: u16) -> Entry
+        ensures { λ r. ⌜ r ≡ fields (self .kind) (self .op) (self .typ) name (self .value) (self .first) (self .second) (self .third) (self .place) ⌝ }
+    {
+        Entry { name, ..self }
+    }
+
+    fn with_value(self, value: i32) -> Entry
+        ensures { λ r. ⌜ r ≡ fields (self .kind) (self .op) (self .typ) (self .name) value (self .first) (self .second) (self .third) (self .place) ⌝ }
+    {
+        Entry { value, ..self }
+    }
+
+    fn with_parts(self, first: u16, second: u16, third: u16) -> Entry
+        ensures { λ r. ⌜ r ≡ fields (self .kind) (self .op) (self .typ) (self .name) (self .value) first second third (self .place) ⌝ }
+    {
+        Entry {
+            first,
+            second,
+            third,
+            ..self
         }
     }
 

@@ -4,3 +4,4 @@ pub mod Table
 pub mod Decode
 pub mod Opens
 pub mod Text
+pub mod ArithmeticLaws

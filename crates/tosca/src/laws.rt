@@ -1,0 +1,14 @@
+// Laws of the definitions, each on the contract of a function.
+ghost use Rattle.tosca.specs.ArithmeticLaws.{Divides, Rounds, Limits, Kept, Zeros, Tests, Worked};
+
+pub fn arithmetic_laws() -> u8
+    ensures divides { λ _. ⌜ Divides ⌝ }
+    ensures rounds { λ _. ⌜ Rounds ⌝ }
+    ensures limits { λ _. ⌜ Limits ⌝ }
+    ensures kept { λ _. ⌜ Kept ⌝ }
+    ensures zeros { λ _. ⌜ Zeros ⌝ }
+    ensures tests { λ _. ⌜ Tests ⌝ }
+    ensures worked { λ _. ⌜ Worked ⌝ }
+{
+    0
+}

@@ -5,3 +5,4 @@ pub mod Decode
 pub mod Opens
 pub mod Text
 pub mod ArithmeticLaws
+pub mod TableLaws

@@ -1,5 +1,6 @@
 // Laws of the definitions, each on the contract of a function.
 ghost use Rattle.tosca.specs.ArithmeticLaws.{Divides, Rounds, Limits, Kept, Zeros, Tests, Worked};
+ghost use Rattle.tosca.specs.TableLaws.{Faithful, Written};
 
 pub fn arithmetic_laws() -> u8
     ensures divides { λ _. ⌜ Divides ⌝ }
@@ -9,6 +10,13 @@ pub fn arithmetic_laws() -> u8
     ensures zeros { λ _. ⌜ Zeros ⌝ }
     ensures tests { λ _. ⌜ Tests ⌝ }
     ensures worked { λ _. ⌜ Worked ⌝ }
+{
+    0
+}
+
+pub fn table_laws() -> u8
+    ensures faithful { λ _. ⌜ Faithful ⌝ }
+    ensures written { λ _. ⌜ Written ⌝ }
 {
     0
 }

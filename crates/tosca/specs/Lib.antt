@@ -6,3 +6,4 @@ pub mod Opens
 pub mod Text
 pub mod ArithmeticLaws
 pub mod TableLaws
+pub mod DecodeLaws

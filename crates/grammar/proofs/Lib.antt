@@ -1,2 +1,4 @@
 pub mod Watches
 pub mod Follow
+pub mod Cases
+pub mod Back

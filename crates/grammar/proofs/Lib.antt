@@ -2,3 +2,4 @@ pub mod Watches
 pub mod Follow
 pub mod Cases
 pub mod Back
+pub mod Stack

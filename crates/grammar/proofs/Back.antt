@@ -3,6 +3,7 @@ use mathlib.Core.Bool.{Bool, true, false}
 use mathlib.Core.Path.{_≡_, refl, sym, ap, subst, _∙_}
 use mathlib.Core.List.{List, [], _∷_, _++_}
 use Prim.Native.Nat.{ℕ}
+use native.Mathlib.Omega.{arith}
 use Rattle.tosca.specs.declared.operators.SimpleType.{SimpleType}
 use Rattle.tosca.specs.declared.operators.Unary.the-variants as unary
 use Rattle.tosca.specs.declared.operators.Binary.the-variants as binary
@@ -14,11 +15,12 @@ use Rattle.grammar.specs.declared.symbols.Mark.the-variants.{Program, Var, Sem
 use Rattle.grammar.specs.Tokens.{Tok, name, pre, start, ty, mark, Item, at, Seen, no, yes}
 use Rattle.grammar.specs.Building.{mulOp, addOp, relOp, Named, typed, declares, Act, aBin, aSkip, aAssign, aSeq, aInput, aProgram}
 use Rattle.grammar.specs.Grammar as g
-use Rattle.grammar.specs.Grammar.{ExprDer, CmdDer, NamesDer, DeclsDer, VarsDer, ProgramDer}
+use Rattle.grammar.specs.Grammar.{ExprDer, CmdDer, NamesDer, DeclsDer, VarsDer, ProgramDer, Text}
 use Rattle.grammar.specs.Grammar.{isLit, isVar, isBracket, isNot, isRound, isTerm, noMul, aMul, isSimple, isMinus, noAdd, aAdd, isExpr, noRel, aRel, isSkip, isAssign, isBlock, isIf, isWhile, isRead, isWrite, noElse, anElse, isEnd, aSemi}
 use Rattle.grammar.specs.Grammar.{noName, aComma, noDecl, aDecl, noVars, someVars, isProgram}
 use Rattle.grammar.specs.Automaton.{Sym, expr, rels, simple, simples, term, terms, factor, cmd, elses, cmds, is, isOpen, isAssigned, isInput, text, title, vars, decls, aName, names, type, does, leave}
-use Rattle.grammar.specs.Automaton.{Move, stuck, go, step, settle, body, atFactor, atSimple, atMark, atBegin, atCmd}
+use Rattle.grammar.specs.Automaton.{Move, stuck, go, step, settle, after, run, body, atFactor, atSimple, atMark, atBegin, atCmd}
+use Rattle.grammar.proofs.Watches.{plain}
 use Rattle.grammar.proofs.Cases.{by-mark, by-open, by-begin, by-type, by-name, by-mul, by-add, by-rel, by-else, by-factor, by-simple, by-cmd}
 
 abbrev named : ℕ → ℕ → Named
@@ -257,3 +259,16 @@ settled act (decls ∷ K) s l = absurd l
 settled act (aName ns ∷ K) s l = absurd l
 settled act (names ns ∷ K) s l = absurd l
 settled act (type ns ∷ K) s l = absurd l
+
+module _ {S : Type 0} (act : Act → S → S) where
+  leads : (x : Item) (ts : List Item) (r : S) (on : List Sym → S → Seen S) → ((K : List Sym) (s : S) → on K s ≡ yes r → Ders K ts) → (m : Move S) → after act plain x ts m on ≡ yes r → Leads m ts
+  leads x ts r on h stuck e = absurd (let z : _≡_ {A = ℕ} 0 1 = cc in omega arith)
+  leads x ts r on h (go K s) e = h K s e
+
+  accepted-ders : (ts : List Item) (K : List Sym) (s r : S) → run act plain K s ts ≡ yes r → Ders K ts
+  accepted-ders [] K s r e = settled act K s (subst Settled (sym e) tt)
+  accepted-ders (at t p ∷ ts) K s r e = back act ts p K s t (leads (at t p) ts r (λ K′ s′. run act plain K′ s′ ts) (λ K′ s′ e′. accepted-ders ts K′ s′ r e′) (step act K s t p) e)
+
+  -- tokens that are accepted are a text of the grammar
+  pub accepted-text : (ts : List Item) (s r : S) → run act plain (text ∷ []) s ts ≡ yes r → (t : tree.Program ℕ) × Text ts t
+  accepted-text ts s r e = let l = accepted-ders ts (text ∷ []) s r e in (l .1 .0, subst (λ o. ProgramDer ts o (l .1 .0)) (l .2) (l .1 .1))

@@ -21,7 +21,7 @@ use Rattle.grammar.specs.Grammar.{isLit, isVar, isBracket, isNot, isRound, isT
 use Rattle.grammar.specs.Grammar.{noName, aComma, noDecl, aDecl, noVars, someVars, isProgram, Deep, deep, exprDepths, cmdDepths, namesDepths, declsDepths, varsDepths, programDepths, textDepths}
 use Rattle.grammar.specs.Automaton.{Sym, does, leave, is, marks, run, Watch}
 use Rattle.grammar.specs.Automaton as auto
-use Rattle.grammar.proofs.Watches.{folds}
+use Rattle.grammar.proofs.Watches.{folds, plain, folds-plain}
 
 abbrev pub symE : ExprPart → Sym
 symE expr = auto.expr
@@ -234,3 +234,6 @@ module _ {S A : Type 0} (act : Act → S → S) (w : Watch S A) where
   -- a text of the grammar is read to its end
   pub follow-text : (s : S) (ts : List Item) (t : tree.Program ℕ) (d : Text ts t) → run act w (auto.text ∷ []) s ts ≡ folds w (textDepths d) (w .ends (yes (builds act t s)))
   follow-text s ts t d = follow-program d [] s [] (w .ends (yes (builds act t s))) refl
+
+pub text-accepted : {S : Type 0} (act : Act → S → S) (s : S) (ts : List Item) (t : tree.Program ℕ) → Text ts t → run act plain (auto.text ∷ []) s ts ≡ yes (builds act t s)
+text-accepted act s ts t d = follow-text act plain s ts t d ∙ folds-plain (textDepths d) (yes (builds act t s))

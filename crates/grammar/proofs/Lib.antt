@@ -3,3 +3,4 @@ pub mod Follow
 pub mod Cases
 pub mod Back
 pub mod Stack
+pub mod Finish

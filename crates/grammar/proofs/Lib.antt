@@ -4,3 +4,4 @@ pub mod Cases
 pub mod Back
 pub mod Stack
 pub mod Finish
+pub mod Asking

@@ -5,3 +5,4 @@ pub mod Back
 pub mod Stack
 pub mod Finish
 pub mod Asking
+pub mod OneTree

@@ -6,3 +6,5 @@ pub mod Stack
 pub mod Finish
 pub mod Asking
 pub mod OneTree
+pub mod Reasons
+pub mod Laws

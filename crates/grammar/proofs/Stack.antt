@@ -1,4 +1,4 @@
--- The stack ends with the end of the text, which stands nowhere else in it.
+-- Two facts of the stack: it ends with the end of the text, which stands nowhere else in it, and a token opens at most one part more.
 use mathlib.Core.Bool.{Bool, true, false, cond}
 use mathlib.Core.Path.{_≡_, refl, sym, ap, subst, _∙_}
 use mathlib.Core.List.{List, [], _∷_, _++_}

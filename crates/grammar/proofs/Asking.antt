@@ -1,19 +1,18 @@
 -- What the limits let through, and a text within them.
 use mathlib.Core.Bool.{Bool, true, false, cond}
-use mathlib.Core.Path.{_≡_, refl, sym, ap, subst, _∙_}
+use mathlib.Core.Path.{_≡_, refl, sym, ap, _∙_}
 use mathlib.Core.List.{List, [], _∷_}
-use Prim.Native.Nat.{ℕ, suc, _≤_}
+use Prim.Native.Nat.{ℕ, _≤_}
 use native.Mathlib.Omega.{arith}
 use lib.Dec.{leb}
 use borrow.Author.Tests.{leb-true, leb-false, le-leb}
-use Rattle.tosca.specs.Trees as tree
 use Rattle.grammar.specs.Tokens.{Tok, Item, at, Seen, no, yes}
 use Rattle.grammar.specs.Building.{Act, builds}
-use Rattle.grammar.specs.Grammar.{Deep, deep, Text, textDepths}
+use Rattle.grammar.specs.Grammar.{Deep, deep, textDepths}
 use Rattle.grammar.specs.Automaton.{Sym, Move, stuck, go, text, step, settle, marks, after, run}
-use Rattle.grammar.specs.Limits.{Ending, over, bad, Outcome, accepted, refused, unended, ending, few, stopping, asking, limits, reads, Within, Complete, Sound}
+use Rattle.grammar.specs.Limits.{Ending, over, bad, Outcome, accepted, refused, ending, few, asking, limits, Within, Complete, Sound}
 use Rattle.grammar.proofs.Watches.{folds, plain}
-use Rattle.grammar.proofs.Follow.{follow-text, text-accepted}
+use Rattle.grammar.proofs.Follow.{follow-text}
 use Rattle.grammar.proofs.Back.{accepted-text}
 
 -- what a token gives that is asked both questions

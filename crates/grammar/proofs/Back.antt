@@ -1,5 +1,4 @@
 -- What the automaton accepts is derived: the stack as a list of derivations, found token by token from the end.
-use mathlib.Core.Bool.{Bool, true, false}
 use mathlib.Core.Path.{_≡_, refl, sym, ap, subst, _∙_}
 use mathlib.Core.List.{List, [], _∷_, _++_}
 use Prim.Native.Nat.{ℕ}
@@ -9,7 +8,7 @@ use Rattle.tosca.specs.declared.operators.Unary.the-variants as unary
 use Rattle.tosca.specs.declared.operators.Binary.the-variants as binary
 use Rattle.tosca.specs.Trees.{Expr, const, var, uny, bin, Cmd, skip, assign, seq, choice, loop, input, output, Decl}
 use Rattle.tosca.specs.Trees as tree
-use Rattle.grammar.specs.declared.symbols.Prefix.the-variants.{Open, Not, Round}
+use Rattle.grammar.specs.declared.symbols.Prefix.the-variants.{Open, Round}
 use Rattle.grammar.specs.declared.symbols.Start.the-variants.{Begin, Read, Write}
 use Rattle.grammar.specs.declared.symbols.Mark.the-variants.{Program, Var, Semicolon, Comma, Colon, Becomes, Close, End, Period, Stop}
 use Rattle.grammar.specs.Tokens.{Tok, name, pre, start, ty, mark, Item, at, Seen, no, yes}
@@ -21,10 +20,7 @@ use Rattle.grammar.specs.Grammar.{noName, aComma, noDecl, aDecl, noVars, someV
 use Rattle.grammar.specs.Automaton.{Sym, expr, rels, simple, simples, term, terms, factor, cmd, elses, cmds, is, isOpen, isAssigned, isInput, text, title, vars, decls, aName, names, type, does, leave}
 use Rattle.grammar.specs.Automaton.{Move, stuck, go, step, settle, after, run, body, atFactor, atSimple, atMark, atBegin, atCmd}
 use Rattle.grammar.proofs.Watches.{plain}
-use Rattle.grammar.proofs.Cases.{by-mark, by-open, by-begin, by-type, by-name, by-mul, by-add, by-rel, by-else, by-factor, by-simple, by-cmd}
-
-abbrev named : ℕ → ℕ → Named
-named n p = record { name = n; place = p }
+use Rattle.grammar.proofs.Cases.{named, by-mark, by-open, by-begin, by-type, by-name, by-mul, by-add, by-rel, by-else, by-factor, by-simple, by-cmd}
 
 abbrev Block : List Item → List Item → Type 0
 Block j o = (m : List Item) × (q : ℕ) × (a : Cmd ℕ) × (d : Cmd ℕ) × CmdDer g.cmd j m a × CmdDer (g.cmds a) m (at (mark Period) q ∷ o) d

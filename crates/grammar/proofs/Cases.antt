@@ -1,7 +1,7 @@
 -- The cases of a step: a fact of a token and what is made of it holds if it holds in each case that the automaton tells apart.
 use mathlib.Core.Bool.{Bool, true, false, cond}
 use mathlib.Core.Path.{_≡_, refl, sym, ap, subst, _∙_}
-use mathlib.Core.List.{List, [], _∷_}
+use mathlib.Core.List.{List, _∷_}
 use Prim.Native.Nat.{ℕ}
 use lib.Dec.{eqb}
 use borrow.Author.Tests.{eqb-true}
@@ -18,10 +18,13 @@ use Rattle.grammar.specs.declared.symbols.Prefix.the-variants.{Open, Not, Roun
 use Rattle.grammar.specs.declared.symbols.Start.the-variants.{Begin, If, While, Read, Write}
 use Rattle.grammar.specs.declared.symbols.Mark.{Mark}
 use Rattle.grammar.specs.declared.symbols.Mark.the-variants.{Program, Var, Semicolon, Comma, Colon, Becomes, Close, Slash, Then, Do, End, Period, Stop}
-use Rattle.grammar.specs.Tokens.{Tok, name, lit, op, pre, start, else′, unused, ty, mark, no, pick, asMul, asAdd, asRel, isElse, code, same}
-use Rattle.grammar.specs.Building.{Act, aConst, aVar, aUny, aBin, aChoice, aLoop, aOutput}
+use Rattle.grammar.specs.Tokens.{Tok, name, lit, op, pre, start, else′, unused, ty, mark, pick, asMul, asAdd, asRel, isElse, code, same}
+use Rattle.grammar.specs.Building.{Named, Act, aConst, aVar, aUny, aBin, aChoice, aLoop, aOutput}
 use Rattle.grammar.specs.Automaton.{Sym, expr, simples, term, terms, factor, cmd, elses, cmds, is, isOpen, isAssigned, isInput, does, leave}
 use Rattle.grammar.specs.Automaton.{Move, stuck, go, atFactor, atSimple, atMark, atOpen, atName, atBegin, atType, atCmd}
+
+abbrev pub named : ℕ → ℕ → Named
+named n p = record { name = n; place = p }
 
 abbrev uncode : ℕ → Mark
 uncode k = cond (eqb k 0) Program (cond (eqb k 1) Var (cond (eqb k 2) Semicolon (cond (eqb k 3) Comma (cond (eqb k 4) Colon (cond (eqb k 5) Becomes (cond (eqb k 6) Close (cond (eqb k 7) Slash (cond (eqb k 8) Then (cond (eqb k 9) Do (cond (eqb k 10) End (cond (eqb k 11) Period Stop)))))))))))

@@ -1,8 +1,8 @@
 -- What is expected can always be given, in simple tokens at any places.
-use mathlib.Core.Bool.{Bool, true, false}
-use mathlib.Core.Path.{_≡_, refl, sym, ap, subst, _∙_}
+use mathlib.Core.Bool.{false}
+use mathlib.Core.Path.{_≡_, refl, sym, subst, _∙_}
 use mathlib.Core.List.{List, [], _∷_, _++_}
-use Prim.Native.Nat.{ℕ, suc, _+_}
+use Prim.Native.Nat.{ℕ, suc}
 use lib.IntN.{pos}
 use Rattle.tosca.specs.declared.operators.SimpleType.the-variants.{Integer}
 use Rattle.tosca.specs.declared.operators.Value.the-variants.{Number}

@@ -4,9 +4,8 @@ use mathlib.Core.List.{List, [], _∷_, _++_, append-assoc, append-nil}
 use Prim.Native.Nat.{ℕ}
 use Rattle.tosca.specs.Trees.{Expr, const, var, uny, bin, Cmd, skip, assign, seq, choice, loop, input, output, Decl}
 use Rattle.tosca.specs.Trees as tree
-use Rattle.grammar.specs.Tokens.{Item, yes}
+use Rattle.grammar.specs.Tokens.{yes}
 use Rattle.grammar.specs.Building.{Act, aConst, aVar, aUny, aBin, aSkip, aAssign, aSeq, aChoice, aLoop, aInput, aOutput, aDecl, aProgram, declares, buildE, buildC, builds}
-use Rattle.grammar.specs.Grammar.{Text}
 use Rattle.grammar.specs.Automaton.{text, run}
 use Rattle.grammar.specs.Limits.{OneTree}
 use Rattle.grammar.proofs.Watches.{plain}

@@ -9,9 +9,9 @@ use Rattle.tosca.specs.Trees as tree
 use Rattle.grammar.specs.declared.symbols.Mark.the-variants.{Stop}
 use Rattle.grammar.specs.Tokens.{Tok, name, lit, op, pre, start, else′, unused, ty, mark, Item, at, Seen, no, yes}
 use Rattle.grammar.specs.Building.{Act, builds}
-use Rattle.grammar.specs.Grammar.{Deep, deep, Text, textDepths}
+use Rattle.grammar.specs.Grammar.{Text, textDepths}
 use Rattle.grammar.specs.Automaton.{Sym, Move, stuck, go, text, step, settle, marks, after, run}
-use Rattle.grammar.specs.Limits.{Ending, over, bad, Outcome, accepted, refused, unended, ending, few, asking, limits, Front, Then, placedFrom, Completable, isStop, Ends, Kept, Refused, five, six, seven, broken, Reasoned}
+use Rattle.grammar.specs.Limits.{Ending, over, bad, Outcome, accepted, refused, ending, few, asking, limits, Front, Then, placedFrom, Completable, isStop, Ends, Kept, Refused, five, six, seven, broken, Reasoned}
 use Rattle.grammar.proofs.Watches.{plain, tracer, folds-tracer}
 use Rattle.grammar.proofs.Follow.{follow-text, text-accepted}
 use Rattle.grammar.proofs.Back.{accepted-text}

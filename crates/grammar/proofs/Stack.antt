@@ -1,20 +1,17 @@
 -- Two facts of the stack: it ends with the end of the text, which stands nowhere else in it, and a token opens at most one part more.
-use mathlib.Core.Bool.{Bool, true, false, cond}
-use mathlib.Core.Path.{_≡_, refl, sym, ap, subst, _∙_}
+use mathlib.Core.Bool.{Bool, true, false}
+use mathlib.Core.Path.{_≡_}
 use mathlib.Core.List.{List, [], _∷_, _++_}
 use Prim.Native.Nat.{ℕ, suc, _≤_}
 use native.Mathlib.Omega.{arith}
 use Rattle.grammar.specs.declared.symbols.Mark.{Mark}
 use Rattle.grammar.specs.declared.symbols.Mark.the-variants.{Program, Var, Semicolon, Comma, Colon, Becomes, Close, Slash, Then, Do, End, Period, Stop}
 use Rattle.grammar.specs.Tokens.{Tok, same}
-use Rattle.grammar.specs.Building.{mulOp, addOp, relOp, Named, typed, declares, Act, aBin, aSkip, aAssign, aSeq, aInput, aProgram}
+use Rattle.grammar.specs.Building.{mulOp, addOp, relOp, typed, declares, Act, aBin, aSkip, aAssign, aSeq, aInput, aProgram}
 use Rattle.grammar.specs.Automaton.{Sym, expr, rels, simple, simples, term, terms, factor, cmd, elses, cmds, is, isOpen, isAssigned, isInput, text, title, vars, decls, aName, names, type, does, leave}
 use Rattle.grammar.specs.Automaton.{Move, stuck, go, step, body, marks, atFactor, atSimple, atMark, atBegin}
 use Rattle.grammar.specs.Limits.{isStop}
-use Rattle.grammar.proofs.Cases.{by-mark, by-open, by-begin, by-type, by-name, by-mul, by-add, by-rel, by-else, by-factor, by-simple, by-cmd}
-
-abbrev named : ℕ → ℕ → Named
-named n p = record { name = n; place = p }
+use Rattle.grammar.proofs.Cases.{named, by-mark, by-open, by-begin, by-type, by-name, by-mul, by-add, by-rel, by-else, by-factor, by-simple, by-cmd}
 
 abbrev pub Closing : List Sym → Type 0
 Closing [] = ⊥

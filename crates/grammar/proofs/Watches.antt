@@ -1,7 +1,7 @@
 -- What a watch makes of tokens with their depths, and the two watches that the proofs use.
 use mathlib.Core.List.{List, [], _∷_}
 use mathlib.Core.Path.{_≡_, refl, ap}
-use Rattle.grammar.specs.Tokens.{Item, Seen, no, yes}
+use Rattle.grammar.specs.Tokens.{Seen, no}
 use Rattle.grammar.specs.Grammar.{Deep, deep}
 use Rattle.grammar.specs.Automaton.{Watch}
 

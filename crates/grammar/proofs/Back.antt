@@ -136,16 +136,16 @@ module _ {S : Type 0} (act : Act → S → S) (ts : List Item) (p : ℕ) where
       (λ n l. let y = l .1 in (l .0, (assign (y .1) n (y .0), subst (λ x. CmdDer g.cmd (at (name n) p ∷ x) (l .0) (assign (y .1) n (y .0))) (sym (y .3)) (isAssign (y .4))), l .2))
       (λ l. let x = l .2 .1 (l .1 .0) in (l .2 .0, (x .0, isBlock (l .1 .1) (x .1)), l .2 .2))
       (λ l.
-        let x = l .1 in
-        let m = l .2 in
-        let y = m .2 in
-        let z = y .2 in
-        (z .0, (choice p (x .0) (y .1 .0) (z .1 .0), isIf (subst (λ j. ExprDer g.expr ts j (x .0)) (m .1 .1) (x .1)) (y .1 .1) (z .1 .1)), z .2))
+      let x = l .1 in
+      let m = l .2 in
+      let y = m .2 in
+      let z = y .2 in
+      (z .0, (choice p (x .0) (y .1 .0) (z .1 .0), isIf (subst (λ j. ExprDer g.expr ts j (x .0)) (m .1 .1) (x .1)) (y .1 .1) (z .1 .1)), z .2))
       (λ l.
-        let x = l .1 in
-        let m = l .2 in
-        let y = m .2 in
-        (y .0, (loop p (x .0) (y .1 .0), isWhile (subst (λ j. ExprDer g.expr ts j (x .0)) (m .1 .1) (x .1)) (y .1 .1)), y .2))
+      let x = l .1 in
+      let m = l .2 in
+      let y = m .2 in
+      (y .0, (loop p (x .0) (y .1 .0), isWhile (subst (λ j. ExprDer g.expr ts j (x .0)) (m .1 .1) (x .1)) (y .1 .1)), y .2))
       (back-read K)
       (back-write K)
       (λ l. (at t p ∷ ts, (skip p, isSkip), h l))
@@ -172,17 +172,25 @@ module _ {S : Type 0} (act : Act → S → S) (ts : List Item) (p : ℕ) where
       (d .0, (f .0, f .1, f .2, subst (λ x. VarsDer (at (mark Var) p ∷ x) (at (start Begin) (f .1) ∷ f .2) (f .0)) (sym (c .3)) v, f .4), d .2)
 
   back-decls : (K : List Sym) (n : ℕ) → Ders (names (named n p ∷ []) ∷ K) ts → Ders (decls ∷ K) (at (name n) p ∷ ts)
-  back-decls K n d = (d .0, (λ ds.
-      let h = d .1 ds in
-      let y = h .4 in
-      let f = y .5 in
-      (f .0, f .1, f .2, aDecl (subst (λ x. NamesDer (named n p ∷ []) ts (at (mark Colon) (h .1) ∷ x) (h .0)) (y .4) (h .3)) (f .3), f .4)), d .2)
+  back-decls K n d = (
+    d .0,
+    (λ ds.
+        let h = d .1 ds in
+        let y = h .4 in
+        let f = y .5 in
+        (f .0, f .1, f .2, aDecl (subst (λ x. NamesDer (named n p ∷ []) ts (at (mark Colon) (h .1) ∷ x) (h .0)) (y .4) (h .3)) (f .3), f .4)),
+    d .2,
+  )
 
   back-comma : (K : List Sym) (ns : List Named) → Ders (aName ns ∷ K) ts → Ders (names ns ∷ K) (at (mark Comma) p ∷ ts)
-  back-comma K ns d = (d .0, (λ ds.
-      let c = d .1 in
-      let h = c .4 ds in
-      (h .0, h .1, h .2, subst (λ x. NamesDer ns (at (mark Comma) p ∷ x) (at (mark Colon) (h .1) ∷ h .2) (h .0)) (sym (c .3)) (aComma (h .3)), h .4)), d .2)
+  back-comma K ns d = (
+    d .0,
+    (λ ds.
+        let c = d .1 in
+        let h = c .4 ds in
+        (h .0, h .1, h .2, subst (λ x. NamesDer ns (at (mark Comma) p ∷ x) (at (mark Colon) (h .1) ∷ h .2) (h .0)) (sym (c .3)) (aComma (h .3)), h .4)),
+    d .2,
+  )
 
   -- one token back
   pub back : (K : List Sym) (s : S) (t : Tok) → Back K t (step act K s t p)

@@ -152,14 +152,14 @@ module _ {S A : Type 0} (act : Act → S → S) (w : Watch S A) where
   follow-expr (isVar {p} {n}) f K s r z h = ap (R (at (name n) p) (marks K)) h
   follow-expr (isBracket {p} {q} {o} {a} d) f K s r z h =
       ap (R (at (pre Open) p) (suc (marks K))) (follow-expr d (refl, refl, refl) (is Close ∷ leave ∷ K) s (deep (at (mark Close) q) (suc (marks K)) ∷ r) z
-        (ap (R (at (mark Close) q) (suc (marks K))) (run-leave K (buildE act a s) o ∙ h)))
+      (ap (R (at (mark Close) q) (suc (marks K))) (run-leave K (buildE act a s) o ∙ h)))
   follow-expr (isNot {p} {o} {a} d) f K s r z h =
       ap (R (at (pre Not) p) (suc (marks K))) (follow-expr d tt (does (aUny p unary.Not) ∷ leave ∷ K) s r z (run-does (aUny p unary.Not) (leave ∷ K) (buildE act a s) o ∙ run-leave K (act (aUny p unary.Not) (buildE act a s)) o ∙ h))
   follow-expr (isRound {p} {q} {r = u} {z = v} {o} {a} {b} d e) f K s r z h =
       let n = suc (marks K) in
       ap (λ x. R (at (pre Round) p) n (R (at (pre Open) q) n x)) (follow-expr d tt (is Slash ∷ auto.factor ∷ is Close ∷ does (aBin p binary.Round) ∷ leave ∷ K) s (deep (at (mark Slash) u) n ∷ exprDepths e n (deep (at (mark Close) v) n ∷ r)) z
-        (ap (R (at (mark Slash) u) n) (follow-expr e tt (is Close ∷ does (aBin p binary.Round) ∷ leave ∷ K) (buildE act a s) (deep (at (mark Close) v) n ∷ r) z
-          (ap (R (at (mark Close) v) n) (run-does (aBin p binary.Round) (leave ∷ K) (buildE act b (buildE act a s)) o ∙ run-leave K (act (aBin p binary.Round) (buildE act b (buildE act a s))) o ∙ h)))))
+      (ap (R (at (mark Slash) u) n) (follow-expr e tt (is Close ∷ does (aBin p binary.Round) ∷ leave ∷ K) (buildE act a s) (deep (at (mark Close) v) n ∷ r) z
+      (ap (R (at (mark Close) v) n) (run-does (aBin p binary.Round) (leave ∷ K) (buildE act b (buildE act a s)) o ∙ run-leave K (act (aBin p binary.Round) (buildE act b (buildE act a s))) o ∙ h)))))
   follow-expr (isTerm {i} d e) f K s r z h = run-term K s i ∙ follow-expr d tt (auto.terms ∷ K) s (exprDepths e (marks K) r) z (follow-expr e f K s r z h)
   follow-expr (noMul {o} {a}) f K s r z h = no-mul K (buildE act a s) o f ∙ h
   follow-expr (aMul {p} {x} {m} {a} {b} d e) f K s r z h =
@@ -184,19 +184,19 @@ module _ {S A : Type 0} (act : Act → S → S) (w : Watch S A) where
   follow-cmd (isIf {p} {q} {o} {a} {b} {d} x y v) f K s r z h =
       let n = suc (marks K) in
       ap (R (at (start If) p) n) (follow-expr x (refl, refl, refl) (is Then ∷ auto.cmd ∷ auto.elses ∷ does (aChoice p) ∷ leave ∷ K) s (deep (at (mark Then) q) n ∷ cmdDepths y n (cmdDepths v n r)) z
-        (ap (R (at (mark Then) q) n) (follow-cmd y (at-elses v f) (auto.elses ∷ does (aChoice p) ∷ leave ∷ K) (buildE act a s) (cmdDepths v n r) z
-          (follow-cmd v f (does (aChoice p) ∷ leave ∷ K) (buildC act b (buildE act a s)) r z
-            (run-does (aChoice p) (leave ∷ K) (buildC act d (buildC act b (buildE act a s))) o ∙ run-leave K (act (aChoice p) (buildC act d (buildC act b (buildE act a s)))) o ∙ h)))))
+      (ap (R (at (mark Then) q) n) (follow-cmd y (at-elses v f) (auto.elses ∷ does (aChoice p) ∷ leave ∷ K) (buildE act a s) (cmdDepths v n r) z
+      (follow-cmd v f (does (aChoice p) ∷ leave ∷ K) (buildC act b (buildE act a s)) r z
+      (run-does (aChoice p) (leave ∷ K) (buildC act d (buildC act b (buildE act a s))) o ∙ run-leave K (act (aChoice p) (buildC act d (buildC act b (buildE act a s)))) o ∙ h)))))
   follow-cmd (isWhile {p} {q} {o} {a} {b} x y) f K s r z h =
       let n = suc (marks K) in
       ap (R (at (start While) p) n) (follow-expr x (refl, refl, refl) (is Do ∷ auto.cmd ∷ does (aLoop p) ∷ leave ∷ K) s (deep (at (mark Do) q) n ∷ cmdDepths y n r) z
-        (ap (R (at (mark Do) q) n) (follow-cmd y f (does (aLoop p) ∷ leave ∷ K) (buildE act a s) r z
-          (run-does (aLoop p) (leave ∷ K) (buildC act b (buildE act a s)) o ∙ run-leave K (act (aLoop p) (buildC act b (buildE act a s))) o ∙ h))))
+      (ap (R (at (mark Do) q) n) (follow-cmd y f (does (aLoop p) ∷ leave ∷ K) (buildE act a s) r z
+      (run-does (aLoop p) (leave ∷ K) (buildC act b (buildE act a s)) o ∙ run-leave K (act (aLoop p) (buildC act b (buildE act a s))) o ∙ h))))
   follow-cmd (isRead {p} {n} {q} {r = u} {z = v}) f K s r z h =
       ap (λ x. R (at (start Read) p) (marks K) (R (at (pre Open) q) (marks K) (R (at (name n) u) (marks K) (R (at (mark Close) v) (marks K) x)))) h
   follow-cmd (isWrite {p} {q} {z = v} {o} {a} d) f K s r z h =
       ap (λ x. R (at (start Write) p) (marks K) (R (at (pre Open) q) (marks K) x)) (follow-expr d (refl, refl, refl) (is Close ∷ does (aOutput p) ∷ K) s (deep (at (mark Close) v) (marks K) ∷ r) z
-        (ap (R (at (mark Close) v) (marks K)) (run-does (aOutput p) K (buildE act a s) o ∙ h)))
+      (ap (R (at (mark Close) v) (marks K)) (run-does (aOutput p) K (buildE act a s) o ∙ h)))
   follow-cmd (noElse {o} n) f K s r z h = no-else K s o n ∙ h
   follow-cmd (anElse {q} d) f K s r z h = ap (R (at else′ q) (marks K)) (follow-cmd d f K s r z h)
   follow-cmd (isEnd {q}) f K s r z h = ap (R (at (mark End) q) (marks K)) h
@@ -212,14 +212,14 @@ module _ {S A : Type 0} (act : Act → S → S) (w : Watch S A) where
   follow-decls (aDecl {ds} {ns} {n} {p} {q} {r = u} {z = v} {y} {m} a b) K s r z h =
       let k = marks K in
       ap (R (at (name n) p) k) (follow-names a K (declares act ds s) (deep (at (mark Colon) q) k ∷ deep (at (ty y) u) k ∷ deep (at (mark Semicolon) v) k ∷ declsDepths b k r) z
-        (ap (λ x. R (at (mark Colon) q) k (R (at (ty y) u) k (R (at (mark Semicolon) v) k x))) (ap (λ x. run act w (auto.decls ∷ K) x m) (declares-append act ds (typed y ns) s) ∙ follow-decls b K s r z h)))
+      (ap (λ x. R (at (mark Colon) q) k (R (at (ty y) u) k (R (at (mark Semicolon) v) k x))) (ap (λ x. run act w (auto.decls ∷ K) x m) (declares-append act ds (typed y ns) s) ∙ follow-decls b K s r z h)))
 
   pub follow-vars : {ds : List (Decl ℕ)} {i o : List Item} (d : VarsDer i o ds) (K : List Sym) (s : S) (r : List Deep) (z : A) → ((s′ : S) → run act w (auto.vars ∷ K) s′ o ≡ run act w (auto.decls ∷ K) s′ o) → run act w (auto.decls ∷ K) (declares act ds s) o ≡ folds w r z → run act w (auto.vars ∷ K) s i ≡ folds w (varsDepths d (marks K) r) z
   follow-vars noVars K s r z e h = e s ∙ h
   follow-vars (someVars {n} {p} {v} {q} {r = u} {z = g} {y} a b) K s r z e h =
       let k = marks K in
       ap (λ x. R (at (mark Var) v) k (R (at (name n) p) k x)) (follow-names a K s (deep (at (mark Colon) q) k ∷ deep (at (ty y) u) k ∷ deep (at (mark Semicolon) g) k ∷ declsDepths b k r) z
-        (ap (λ x. R (at (mark Colon) q) k (R (at (ty y) u) k (R (at (mark Semicolon) g) k x))) (follow-decls b K s r z h)))
+      (ap (λ x. R (at (mark Colon) q) k (R (at (ty y) u) k (R (at (mark Semicolon) g) k x))) (follow-decls b K s r z h)))
 
   pub follow-program : {i o : List Item} {t : tree.Program ℕ} (d : ProgramDer i o t) (K : List Sym) (s : S) (r : List Deep) (z : A) → run act w K (builds act t s) o ≡ folds w r z → run act w (auto.text ∷ K) s i ≡ folds w (programDepths d (marks K) r) z
   follow-program (isProgram {p} {n} {x} {y} {b} {q} {z = g} {ds} v c e) K s r z h =
@@ -227,9 +227,9 @@ module _ {S A : Type 0} (act : Act → S → S) (w : Watch S A) where
       let J = does (aProgram p) ∷ is Stop ∷ K in
       let l = deep (at (mark Period) q) k ∷ deep (at (mark Stop) g) k ∷ r in
       ap (λ u. R (at (mark Program) p) k (R (at (name n) x) k (R (at (mark Semicolon) y) k u))) (follow-vars v J s (deep (at (start Begin) b) (suc k) ∷ cmdDepths c (suc k) (cmdDepths e (suc k) l)) z (λ s′. refl)
-        (ap (R (at (start Begin) b) (suc k)) (follow-cmd c (at-cmds e) (auto.cmds ∷ leave ∷ is Period ∷ J) (declares act ds s) (cmdDepths e (suc k) l) z
-          (follow-cmd e tt (leave ∷ is Period ∷ J) (declares act ds s) l z
-            (ap (λ u. R (at (mark Period) q) k (R (at (mark Stop) g) k u)) h)))))
+      (ap (R (at (start Begin) b) (suc k)) (follow-cmd c (at-cmds e) (auto.cmds ∷ leave ∷ is Period ∷ J) (declares act ds s) (cmdDepths e (suc k) l) z
+      (follow-cmd e tt (leave ∷ is Period ∷ J) (declares act ds s) l z
+      (ap (λ u. R (at (mark Period) q) k (R (at (mark Stop) g) k u)) h)))))
 
   -- a text of the grammar is read to its end
   pub follow-text : (s : S) (ts : List Item) (t : tree.Program ℕ) (d : Text ts t) → run act w (auto.text ∷ []) s ts ≡ folds w (textDepths d) (w .ends (yes (builds act t s)))

@@ -79,9 +79,13 @@ module _ {S : Type 0} (act : Act → S → S) where
 
   -- what leads to a closing stack can be completed
   completes : {J : List Sym} {r : S} (s : S) (front : List Item) → ((us : List Item) → run act plain (text ∷ []) s (front ++ us) ≡ run act plain J r us) → Closing J → Completable front
-  completes {J} {r} s front g c n = (finish n J, finish-simple n J, (λ f.
-      let q = finishes act n f 0 J r c in
-      accepted-text act (front ++ placedFrom f 0 (finish n J ++ (mark Stop ∷ []))) s (q .0) (g (placedFrom f 0 (finish n J ++ (mark Stop ∷ []))) ∙ q .1)))
+  completes {J} {r} s front g c n = (
+    finish n J,
+    finish-simple n J,
+    (λ f.
+        let q = finishes act n f 0 J r c in
+        accepted-text act (front ++ placedFrom f 0 (finish n J ++ (mark Stop ∷ []))) s (q .0) (g (placedFrom f 0 (finish n J ++ (mark Stop ∷ []))) ∙ q .1)),
+  )
 
   -- the front and a token that is read after it
   goes-further : {K J J′ : List Sym} {s r r′ : S} {front : List Item} (t : Tok) (p : ℕ) → Passed act K s front J r → step act J r t p ≡ go J′ r′ → (us : List Item) → run act plain K s ((front ++ (at t p ∷ [])) ++ us) ≡ run act plain J′ r′ us

@@ -1,0 +1,10 @@
+pub mod Watches
+pub mod Follow
+pub mod Cases
+pub mod Back
+pub mod Stack
+pub mod Finish
+pub mod Asking
+pub mod OneTree
+pub mod Reasons
+pub mod Laws

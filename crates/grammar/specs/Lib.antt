@@ -4,3 +4,4 @@ pub mod Grammar
 pub mod Automaton
 pub mod Listing
 pub mod Limits
+pub mod Bounded

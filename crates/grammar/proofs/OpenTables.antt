@@ -135,32 +135,33 @@ pub record Sound (b : ℕ) (ps : List Part) (es : List Entry) : Type 0 where
   pub loose : Stand es (length es) ps
   pub used : (i : ℕ) → allUses i es + uses i ps ≡ within b (length es) i
 
--- one more entry: its parts are no longer loose, and it is
-module _ (b : ℕ) (es : List Entry) (ps : List Part) (n : Node) (p : ℕ) (s : Sort) where
+-- one more entry, of the parts qs: these are no longer loose, and it is
+module _ (b : ℕ) (es : List Entry) (qs ps : List Part) (n : Node) (p : ℕ) (s : Sort) where
   pub sound-push :
-      b ≤ length es → AllGood b es 0 es → Stand es (length es) (parts (Some n)) → Stand es (length es) ps →
-      ((i : ℕ) → allUses i es + (uses i (parts (Some n)) + uses i ps) ≡ within b (length es) i) →
-      fewNames n ≡ true → p ≤ 16384 → inner s ≡ true → sort (Some n) ≡ s →
+      b ≤ length es → AllGood b es 0 es → Stand es (length es) qs → Stand es (length es) ps →
+      ((i : ℕ) → allUses i es + (uses i qs + uses i ps) ≡ within b (length es) i) →
+      parts (Some n) ≡ qs → sort (Some n) ≡ s → inner s ≡ true → fewNames n ≡ true → p ≤ 16384 →
       Sound b (record { at = length es; wants = s } ∷ ps) (es ++ (entry n p ∷ []))
-  sound-push a g q l u f h j e =
+  sound-push a g q l u w e j f h =
       let x = entry n p in
       let len : length (es ++ (x ∷ [])) ≡ suc (length es) = omega (arith, length-push es x) in
-      let is : node x ≡ Some n = node-entry n p in
+      let is : sort (node x) ≡ s = ap sort (node-entry n p) ∙ e in
+      let has : parts (node x) ≡ qs = ap parts (node-entry n p) ∙ w in
       let good : Good b (es ++ (x ∷ [])) (length es) x = record
             { says = known-entry n p f h
             ; early = λ k. absurd (omega arith)
-            ; late = λ k. ap (λ (m : Option Node). inner (sort m)) is ∙ ap inner e ∙ j
-            ; stands = subst (λ m. Stand (es ++ (x ∷ [])) (length es) (parts m)) (sym is) (stand-more es (x ∷ []) (length es) (length es) (parts (Some n)) (omega arith) (omega arith) q) } in
+            ; late = λ k. ap inner is ∙ j
+            ; stands = subst (λ m. Stand (es ++ (x ∷ [])) (length es) m) (sym has) (stand-more es (x ∷ []) (length es) (length es) qs (omega arith) (omega arith) q) } in
       record
         { above = omega (arith, len)
         ; good = good-push b (es ++ (x ∷ [])) 0 es x (good-more b es (x ∷ []) 0 es (omega arith) g) (subst (λ m. Good b (es ++ (x ∷ [])) m x) (omega arith) good)
         ; loose =
             ( omega (arith, len)
-            , ap (λ (y : Entry). sort (node y)) (getD-at es x [] blank (length es) refl) ∙ ap sort is ∙ e
+            , ap (λ (y : Entry). sort (node y)) (getD-at es x [] blank (length es) refl) ∙ is
             , stand-more es (x ∷ []) (length es) (length (es ++ (x ∷ []))) ps (omega arith) (omega (arith, len)) l )
         ; used = λ i.
             let c = cond (eqb (length es) i) 1 0 in
-            let v : allUses i (es ++ (x ∷ [])) ≡ allUses i es + uses i (parts (Some n)) = uses-push i es x ∙ ap (λ (m : Option Node). allUses i es + uses i (parts m)) is in
+            let v : allUses i (es ++ (x ∷ [])) ≡ allUses i es + uses i qs = uses-push i es x ∙ ap (λ (m : List Part). allUses i es + uses i m) has in
             subst (λ m. allUses i (es ++ (x ∷ [])) + (c + uses i ps) ≡ within b m i) (sym len) (omega (arith, v, u i, within-more b (length es) i a)) }
 
 -- the whole table: a sound one, and the program entry after it

@@ -1,3 +1,4 @@
 pub mod Bounded
 pub mod OpenTables
 pub mod Opened
+pub mod OpenSteps

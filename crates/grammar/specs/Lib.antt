@@ -5,3 +5,4 @@ pub mod Automaton
 pub mod Listing
 pub mod Limits
 pub mod Bounded
+pub mod Numbered

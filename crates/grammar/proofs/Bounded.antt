@@ -1,10 +1,7 @@
 -- The tree of a text whose tokens fit is bounded.
-use mathlib.Core.Bool.{Bool, true, false}
 use mathlib.Core.List.{List, [], _∷_, _++_}
-use mathlib.Core.Path.{_≡_, refl}
 use Prim.Native.Nat.{ℕ, _≤_, _<_}
 use native.Mathlib.Omega.{arith}
-use lib.Dec.{ltb}
 use Rattle.std.proofs.shelf.Tests.{ltb-true}
 use Rattle.tosca.specs.declared.operators.SimpleType.{SimpleType}
 use Rattle.tosca.specs.Trees.{Expr, Cmd, Decl}

@@ -1,5 +1,5 @@
 pub mod Bounded
 pub mod OpenTables
-pub mod Opened
 pub mod OpenSteps
 pub mod OpenNumbered
+pub mod Opened

@@ -1,16 +1,15 @@
 -- Tables in the making: their first entries are declarations, and of the others each is used once or still loose.
 use mathlib.Core.Bool.{Bool, true, false, not, _&&_, cond}
 use mathlib.Core.List.{List, [], _∷_, _++_}
-use mathlib.Core.Path.{_≡_, refl, sym, ap, ap₂, subst, _∙_}
+use mathlib.Core.Path.{_≡_, refl, sym, ap, subst, _∙_}
 use mathlib.Core.Logic.{_⊎_, inl, inr}
-use Prim.Native.Nat.{ℕ, zero, suc, _+_, _≤_, _<_}
+use Prim.Native.Nat.{ℕ, suc, _+_, _≤_, _<_}
 use native.Mathlib.Omega.{arith}
 use lib.Dec.{eqb, leb, ltb}
-use lib.ListN.{length, getD, length-append, List·getD-append}
+use lib.ListN.{length, getD, List·getD-append}
 use Rattle.std.proofs.shelf.Lists.{getD-at, length-push}
 use Rattle.std.proofs.shelf.Tests.{and-from, lt-ltb, le-leb, eq-eqb, cases-lt, cond-true}
-use Rattle.std.specs.declared.option.Option.{Option}
-use Rattle.std.specs.declared.option.Option.the-variants.{Some, None}
+use Rattle.std.specs.declared.option.Option.the-variants.{Some}
 use Rattle.tosca.specs.declared.operators.SimpleType.the-variants.{Integer, Boolean}
 use Rattle.tosca.specs.declared.operators.Value.the-variants.{Number, Truth}
 use Rattle.tosca.specs.declared.operators.Unary.the-variants as unary
@@ -19,7 +18,7 @@ use Rattle.tosca.specs.declared.table.Entry.{Entry}
 use Rattle.tosca.specs.declared.table.Node.{Node}
 use Rattle.tosca.specs.declared.table.Node.the-variants.{Decl, Const, Var, Uny, Bin, Skip, Assign, Seq, Choice, Loop, Input, Output, Program}
 use Rattle.tosca.specs.Table.{blank, entry, node}
-use Rattle.tosca.specs.Opens.{Sort, isDecl, isExpr, isCmd, isProgram, isNone, sort, sortCode, sameSort, Part, exprPart, cmdPart, parts, fewNames, knownNode, known, allKnown, placed, allPlaced, uses, allUses, once, allOnce, noDecl, declsFirst, programLast, arranged, opened, entriesOpen}
+use Rattle.tosca.specs.Opens.{Sort, isDecl, isExpr, isCmd, isProgram, isNone, sort, sameSort, Part, cmdPart, parts, fewNames, knownNode, known, allKnown, placed, allPlaced, uses, allUses, once, allOnce, noDecl, declsFirst, programLast, arranged, opened, entriesOpen}
 
 -- an entry says the node that it is the entry of
 pub node-entry : (n : Node) (p : ℕ) → node (entry n p) ≡ Some n

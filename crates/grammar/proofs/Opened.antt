@@ -1,34 +1,33 @@
 -- The node table that is listed of a bounded tree opens.
-use mathlib.Core.Bool.{Bool, true, false, _&&_, cond}
+use mathlib.Core.Bool.{true}
 use mathlib.Core.List.{List, [], _∷_, _++_}
 use mathlib.Core.Path.{_≡_, refl, sym, ap, ap₂, subst, _∙_}
-use Prim.Native.Nat.{ℕ, zero, suc, _+_, _≤_, _<_}
+use Prim.Native.Nat.{ℕ, suc, _+_, _≤_}
 use native.Mathlib.Omega.{arith}
-use lib.Dec.{eqb, leb, ltb}
-use lib.ListN.{length, getD, take, replicate, length-append, length-replicate}
-use Rattle.std.proofs.shelf.Lists.{length-push, append-assoc, append-nil}
+use lib.ListN.{length, take, replicate, length-replicate}
 use Rattle.std.proofs.shelf.Tests.{and-from, lt-ltb, le-leb, cond-true}
 use Rattle.std.specs.declared.option.Option.the-variants.{Some}
 use Rattle.tosca.specs.declared.table.Entry.{Entry}
 use Rattle.tosca.specs.declared.table.Node.{Node}
 use Rattle.tosca.specs.declared.table.Node.the-variants.{Decl, Const, Var, Uny, Bin, Skip, Assign, Seq, Choice, Loop, Input, Output, Program}
 use Rattle.tosca.specs.Table.{blank, entry, node}
-use Rattle.tosca.specs.Opens.{Sort, isDecl, isExpr, isCmd, sort, Part, exprPart, cmdPart, parts, fewNames, uses, allUses, counted, opened, refused, entriesOpen, opening}
+use Rattle.tosca.specs.Opens.{Sort, isExpr, isCmd, sort, Part, exprPart, cmdPart, parts, fewNames, uses, allUses, counted, opened, entriesOpen, opening}
 use Rattle.tosca.specs.Trees.{Expr, const, var, uny, bin, Cmd, skip, assign, seq, choice, loop, input, output}
 use Rattle.tosca.specs.Trees as tree
-use Rattle.grammar.specs.Building.{Act, aBin, aProgram, declares, buildE, buildC, builds}
-use Rattle.grammar.specs.Listing.{Listing, listing, adds, one, two, three, lists, list, entriesOf, laid}
+use Rattle.grammar.specs.Building.{declares, buildE, buildC}
+use Rattle.grammar.specs.Listing.{Listing, listing, adds, one, two, three, list, entriesOf, laid}
 use Rattle.grammar.specs.Bounded.{BoundedE, BoundedC, BoundedDs, Bounded}
-use Rattle.grammar.proofs.OpenTables.{Sound, sound-push, sound-opens, inner, within, within-none, Good, AllGood, Stand, node-entry, known-entry}
+use Rattle.grammar.proofs.OpenNumbered.{declEntries, lists-decls, entries-count}
+use Rattle.grammar.proofs.OpenTables.{Sound, sound-push, sound-opens, inner, within-none, AllGood, Stand, node-entry, known-entry}
 
-abbrev pub ats : List Part → List ℕ
+abbrev ats : List Part → List ℕ
 ats [] = []
 ats (p ∷ ps) = p .at ∷ ats ps
 
 -- a sound table, and a listing's loose entries are its
-pub record Made (b : ℕ) (ps : List Part) (l : Listing) : Type 0 where
-  pub loose : l .loose ≡ ats ps
-  pub sound : Sound b ps (l .entries)
+record Made (b : ℕ) (ps : List Part) (l : Listing) : Type 0 where
+  loose : l .loose ≡ ats ps
+  sound : Sound b ps (l .entries)
 
 -- a node that may be listed at a place, its parts and its sort
 record Node-of (n : Node) (p : ℕ) (qs : List Part) (s : Sort) : Type 0 where
@@ -111,17 +110,7 @@ module _ (b : ℕ) where
       let r = makes-expr a ps l (h .1) m in
       (_, adds-one b ps p isCmd (buildE list a l) (λ i. Output i) (exprPart (r .0)) (r .1) (node-of (Output (r .0)) p refl refl (h .0)))
 
--- the declarations' entries
-abbrev pub declEntries : List (tree.Decl ℕ) → List Entry
-declEntries [] = []
-declEntries (d ∷ ds) = entry (Decl (d .name) (d .type)) (d .label) ∷ declEntries ds
-
-pub lists-decls : (ds : List (tree.Decl ℕ)) (V : List ℕ) (es : List Entry) → declares list ds (listing V es) ≡ listing V (es ++ declEntries ds)
-lists-decls [] V es = ap (listing V) (sym (append-nil es))
-lists-decls (d ∷ ds) V es =
-    let x = entry (Decl (d .name) (d .type)) (d .label) in
-    lists-decls ds V (es ++ (x ∷ [])) ∙ ap (listing V) (append-assoc es (x ∷ []) (declEntries ds))
-
+-- the declarations are no parts, and have none
 decl-parts : (d : tree.Decl ℕ) → parts (node (entry (Decl (d .name) (d .type)) (d .label))) ≡ []
 decl-parts d = ap parts (node-entry (Decl (d .name) (d .type)) (d .label))
 
@@ -152,19 +141,18 @@ decls-made ds h =
           ; used = λ i. omega (arith, decls-unused i ds, within-none (length es) i) } })
 
 -- the listing before the program entry
-abbrev pub bodied : tree.Program ℕ → Listing
+abbrev bodied : tree.Program ℕ → Listing
 bodied t = buildC list (t .body) (declares list (t .decls) (listing [] []))
 
-pub bodied-sound : (t : tree.Program ℕ) → Bounded t → (r : ℕ) × Made (length (declEntries (t .decls))) (cmdPart r ∷ []) (bodied t)
+bodied-sound : (t : tree.Program ℕ) → Bounded t → (r : ℕ) × Made (length (declEntries (t .decls))) (cmdPart r ∷ []) (bodied t)
 bodied-sound t h = makes-cmd (length (declEntries (t .decls))) (t .body) [] (declares list (t .decls) (listing [] [])) (h .2) (decls-made (t .decls) (h .1))
 
-pub entries-end : (t : tree.Program ℕ) (h : Bounded t) → entriesOf t ≡ bodied t .entries ++ (entry (Program (bodied-sound t h .0)) (t .label) ∷ [])
+entries-end : (t : tree.Program ℕ) (h : Bounded t) → entriesOf t ≡ bodied t .entries ++ (entry (Program (bodied-sound t h .0)) (t .label) ∷ [])
 entries-end t h = ap (λ (V : List ℕ). one (bodied t .entries) V (t .label) (λ a. Program a) .entries) (bodied-sound t h .1 .loose)
 
 -- a tree has an entry at least
-pub entries-some : (t : tree.Program ℕ) → Bounded t → 1 ≤ length (entriesOf t)
-entries-some t h =
-    subst (λ (es : List Entry). 1 ≤ length es) (sym (entries-end t h)) (omega (arith, length-push (bodied t .entries) (entry (Program (bodied-sound t h .0)) (t .label))))
+pub entries-some : (t : tree.Program ℕ) → 1 ≤ length (entriesOf t)
+entries-some t = omega (arith, entries-count t)
 
 pub entries-open : (t : tree.Program ℕ) → Bounded t → entriesOpen (entriesOf t) ≡ opened
 entries-open t h =
@@ -187,5 +175,5 @@ listed-opens t h cap l k =
     let room = replicate cap blank in
     let len : length room ≡ cap = length-replicate cap blank in
     let c : counted (length (laid es room)) (length es) ≡ true =
-          and-from _ _ (le-leb 1 (length es) (entries-some t h)) (and-from _ _ (le-leb (length es) 1024 l) (le-leb (length es) (length (laid es room)) (omega (arith, length-laid es room, len)))) in
+          and-from _ _ (le-leb 1 (length es) (entries-some t)) (and-from _ _ (le-leb (length es) 1024 l) (le-leb (length es) (length (laid es room)) (omega (arith, length-laid es room, len)))) in
     cond-true (counted (length (laid es room)) (length es)) _ _ c ∙ ap entriesOpen (take-laid es room (omega (arith, len))) ∙ entries-open t h

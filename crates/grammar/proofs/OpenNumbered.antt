@@ -50,12 +50,13 @@ module _ (l : Listing) (es : List Entry) (b : Begins (l .entries) es) (h : (k : 
   push : (n : Node) (p r : ℕ) → length es ≡ r → Quiet n → Grown l (adds n p (l .loose) es) r n
   push n p r e q =
       let x = entry n p in
-      record
-        { loose = ap {B = List ℕ} (λ (a : ℕ). a ∷ l .loose) e
-        ; count = omega (arith, length-push es x, e)
-        ; begins = begins-on b (record { rest = x ∷ []; is = refl })
-        ; root = λ t c. ap (λ (z : List Entry). node (getD z r blank)) (c .is ∙ append-assoc es (x ∷ []) (c .rest)) ∙ ap node (getD-at es x (c .rest) blank r e) ∙ node-entry n p
-        ; quiet = λ k. quiet-push n p q k es ∙ h k }
+      record {
+        loose = ap {B = List ℕ} (λ (a : ℕ). a ∷ l .loose) e;
+        count = omega (arith, length-push es x, e);
+        begins = begins-on b (record { rest = x ∷ []; is = refl });
+        root = λ t c. ap (λ (z : List Entry). node (getD z r blank)) (c .is ∙ append-assoc es (x ∷ []) (c .rest)) ∙ ap node (getD-at es x (c .rest) blank r e) ∙ node-entry n p;
+        quiet = λ k. quiet-push n p q k es ∙ h k;
+      }
 
 -- a node without parts, and with one, two and three that were built
 grow-zero : (l : Listing) (n : Node) (p b : ℕ) → length (l .entries) ≡ b → Quiet n → Grown l (adds n p (l .loose) (l .entries)) b n
@@ -181,8 +182,8 @@ module _ (t : List Entry) where
       let h₂ : Begins (l₂ .entries) t = begins-on (begins-two (l₂ .entries) (l₂ .loose) p (λ y z. Bin y o z)) h in
       expr-root (suc j) (Bin i o j) (grows-expr (bin p a o c) b l e .root t h)
       ∙ ap₂ (λ (y z : Expr ℕ). bin (suc j) y o z)
-          (at-expr (suc j) i (numberE b a) (omega (arith, above-expr (suc i) c)) (reads-expr a b l e (begins-on (g₂ .begins) h₂)))
-          (at-expr (suc j) j (numberE (suc i) c) (omega arith) (reads-expr c (suc i) l₁ (g₁ .count) h₂))
+      (at-expr (suc j) i (numberE b a) (omega (arith, above-expr (suc i) c)) (reads-expr a b l e (begins-on (g₂ .begins) h₂)))
+      (at-expr (suc j) j (numberE (suc i) c) (omega arith) (reads-expr c (suc i) l₁ (g₁ .count) h₂))
 
   reads-cmd : (a : Cmd ℕ) (b : ℕ) (l : Listing) → length (l .entries) ≡ b → Begins (buildC list a l .entries) t → cmdAt t (lastC b a) ≡ numberC b a
   reads-cmd (skip p) b l e h = cmd-root b Skip (grows-cmd (skip p) b l e .root t h)
@@ -201,8 +202,8 @@ module _ (t : List Entry) where
       let h₂ : Begins (l₂ .entries) t = begins-on (begins-two (l₂ .entries) (l₂ .loose) p (λ y z. Seq y z)) h in
       cmd-root (suc j) (Seq i j) (grows-cmd (seq p a c) b l e .root t h)
       ∙ ap₂ (λ (y z : Cmd ℕ). seq (suc j) y z)
-          (at-cmd (suc j) i (numberC b a) (omega (arith, above-cmd (suc i) c)) (reads-cmd a b l e (begins-on (g₂ .begins) h₂)))
-          (at-cmd (suc j) j (numberC (suc i) c) (omega arith) (reads-cmd c (suc i) l₁ (g₁ .count) h₂))
+      (at-cmd (suc j) i (numberC b a) (omega (arith, above-cmd (suc i) c)) (reads-cmd a b l e (begins-on (g₂ .begins) h₂)))
+      (at-cmd (suc j) j (numberC (suc i) c) (omega arith) (reads-cmd c (suc i) l₁ (g₁ .count) h₂))
   reads-cmd (choice p a c d) b l e h =
       let l₁ = buildE list a l in
       let l₂ = buildC list c l₁ in
@@ -216,11 +217,11 @@ module _ (t : List Entry) where
       let h₃ : Begins (l₃ .entries) t = begins-on (begins-three (l₃ .entries) (l₃ .loose) p (λ x y z. Choice x y z)) h in
       let h₂ : Begins (l₂ .entries) t = begins-on (g₃ .begins) h₃ in
       let x : earlier (suc k) i (noExpr i) (exprAt t i) ≡ numberE b a =
-            at-expr (suc k) i (numberE b a) (omega (arith, above-cmd (suc i) c, above-cmd (suc j) d)) (reads-expr a b l e (begins-on (g₂ .begins) h₂)) in
+      at-expr (suc k) i (numberE b a) (omega (arith, above-cmd (suc i) c, above-cmd (suc j) d)) (reads-expr a b l e (begins-on (g₂ .begins) h₂)) in
       let y : earlier (suc k) j (skip j) (cmdAt t j) ≡ numberC (suc i) c =
-            at-cmd (suc k) j (numberC (suc i) c) (omega (arith, above-cmd (suc j) d)) (reads-cmd c (suc i) l₁ (g₁ .count) h₂) in
+      at-cmd (suc k) j (numberC (suc i) c) (omega (arith, above-cmd (suc j) d)) (reads-cmd c (suc i) l₁ (g₁ .count) h₂) in
       let z : earlier (suc k) k (skip k) (cmdAt t k) ≡ numberC (suc j) d =
-            at-cmd (suc k) k (numberC (suc j) d) (omega arith) (reads-cmd d (suc j) l₂ (g₂ .count) h₃) in
+      at-cmd (suc k) k (numberC (suc j) d) (omega arith) (reads-cmd d (suc j) l₂ (g₂ .count) h₃) in
       cmd-root (suc k) (Choice i j k) (grows-cmd (choice p a c d) b l e .root t h) ∙ (λ r. choice (suc k) (x r) (y r) (z r))
   reads-cmd (loop p a c) b l e h =
       let l₁ = buildE list a l in
@@ -232,8 +233,8 @@ module _ (t : List Entry) where
       let h₂ : Begins (l₂ .entries) t = begins-on (begins-two (l₂ .entries) (l₂ .loose) p (λ y z. Loop y z)) h in
       cmd-root (suc j) (Loop i j) (grows-cmd (loop p a c) b l e .root t h)
       ∙ ap₂ (λ (y : Expr ℕ) (z : Cmd ℕ). loop (suc j) y z)
-          (at-expr (suc j) i (numberE b a) (omega (arith, above-cmd (suc i) c)) (reads-expr a b l e (begins-on (g₂ .begins) h₂)))
-          (at-cmd (suc j) j (numberC (suc i) c) (omega arith) (reads-cmd c (suc i) l₁ (g₁ .count) h₂))
+      (at-expr (suc j) i (numberE b a) (omega (arith, above-cmd (suc i) c)) (reads-expr a b l e (begins-on (g₂ .begins) h₂)))
+      (at-cmd (suc j) j (numberC (suc i) c) (omega arith) (reads-cmd c (suc i) l₁ (g₁ .count) h₂))
   reads-cmd (input p x) b l e h = cmd-root b (Input x) (grows-cmd (input p x) b l e .root t h)
   reads-cmd (output p a) b l e h =
       let l₁ = buildE list a l in
@@ -290,8 +291,8 @@ module _ (t : tree.Program ℕ) where
       let end : length es - 1 ≡ suc r = omega (arith, entries-count) in
       let h : Begins (l .entries) es = begins-one (l .entries) (l .loose) (t .label) (λ a. Program a) in
       let body : bodyOf es (length es - 1) (node (getD es (length es - 1) blank)) ≡ numberC (length (t .decls)) (t .body) =
-            ap (λ (m : ℕ). bodyOf es m (node (getD es m blank))) end
-            ∙ ap (bodyOf es (suc r)) (whole .root es (record { rest = []; is = sym (append-nil es) }))
-            ∙ reads-cmd es (t .body) (length (t .decls)) heading heading-count h in
+      ap (λ (m : ℕ). bodyOf es m (node (getD es m blank))) end
+      ∙ ap (bodyOf es (suc r)) (whole .root es (record { rest = []; is = sym (append-nil es) }))
+      ∙ reads-cmd es (t .body) (length (t .decls)) heading heading-count h in
       let decls : declsFrom 0 es ≡ numberDs 0 (t .decls) = whole .quiet 0 ∙ ap (declsFrom 0) heading-is ∙ reads-decls 0 (t .decls) in
       λ i. record { label = end i; decls = decls i; body = body i }

@@ -115,9 +115,10 @@ stand-more t us j k (p ∷ ps) l h s =
 
 good-more : (b : ℕ) (t us : List Entry) (k : ℕ) (es : List Entry) → k + length es ≤ length t → AllGood b t k es → AllGood b (t ++ us) k es
 good-more b t us k [] l g = tt
-good-more b t us k (e ∷ es) l g =
-    ( record { says = g .0 .says; early = g .0 .early; late = g .0 .late; stands = stand-more t us k k (parts (node e)) (omega arith) (omega arith) (g .0 .stands) }
-    , good-more b t us (suc k) es (omega arith) (g .1) )
+good-more b t us k (e ∷ es) l g = (
+  record { says = g .0 .says; early = g .0 .early; late = g .0 .late; stands = stand-more t us k k (parts (node e)) (omega arith) (omega arith) (g .0 .stands) },
+  good-more b t us (suc k) es (omega arith) (g .1),
+)
 
 good-push : (b : ℕ) (t : List Entry) (k : ℕ) (es : List Entry) (x : Entry) → AllGood b t k es → Good b t (k + length es) x → AllGood b t k (es ++ (x ∷ []))
 good-push b t k [] x g h = (subst (λ m. Good b t m x) (omega arith) h, tt)
@@ -146,22 +147,25 @@ module _ (b : ℕ) (es : List Entry) (qs ps : List Part) (n : Node) (p : ℕ) (s
       let len : length (es ++ (x ∷ [])) ≡ suc (length es) = omega (arith, length-push es x) in
       let is : sort (node x) ≡ s = ap sort (node-entry n p) ∙ e in
       let has : parts (node x) ≡ qs = ap parts (node-entry n p) ∙ w in
-      let good : Good b (es ++ (x ∷ [])) (length es) x = record
-            { says = known-entry n p f h
-            ; early = λ k. absurd (omega arith)
-            ; late = λ k. ap inner is ∙ j
-            ; stands = subst (λ m. Stand (es ++ (x ∷ [])) (length es) m) (sym has) (stand-more es (x ∷ []) (length es) (length es) qs (omega arith) (omega arith) q) } in
-      record
-        { above = omega (arith, len)
-        ; good = good-push b (es ++ (x ∷ [])) 0 es x (good-more b es (x ∷ []) 0 es (omega arith) g) (subst (λ m. Good b (es ++ (x ∷ [])) m x) (omega arith) good)
-        ; loose =
-            ( omega (arith, len)
-            , ap (λ (y : Entry). sort (node y)) (getD-at es x [] blank (length es) refl) ∙ is
-            , stand-more es (x ∷ []) (length es) (length (es ++ (x ∷ []))) ps (omega arith) (omega (arith, len)) l )
-        ; used = λ i.
+      let good : Good b (es ++ (x ∷ [])) (length es) x = record {
+        says = known-entry n p f h;
+        early = λ k. absurd (omega arith);
+        late = λ k. ap inner is ∙ j;
+        stands = subst (λ m. Stand (es ++ (x ∷ [])) (length es) m) (sym has) (stand-more es (x ∷ []) (length es) (length es) qs (omega arith) (omega arith) q);
+      } in
+      record {
+        above = omega (arith, len);
+        good = good-push b (es ++ (x ∷ [])) 0 es x (good-more b es (x ∷ []) 0 es (omega arith) g) (subst (λ m. Good b (es ++ (x ∷ [])) m x) (omega arith) good);
+        loose = (
+          omega (arith, len),
+          ap (λ (y : Entry). sort (node y)) (getD-at es x [] blank (length es) refl) ∙ is,
+          stand-more es (x ∷ []) (length es) (length (es ++ (x ∷ []))) ps (omega arith) (omega (arith, len)) l,
+        );
+        used = λ i.
             let c = cond (eqb (length es) i) 1 0 in
             let v : allUses i (es ++ (x ∷ [])) ≡ allUses i es + uses i qs = uses-push i es x ∙ ap (λ (m : List Part). allUses i es + uses i m) has in
-            subst (λ m. allUses i (es ++ (x ∷ [])) + (c + uses i ps) ≡ within b m i) (sym len) (omega (arith, v, u i, within-more b (length es) i a)) }
+            subst (λ m. allUses i (es ++ (x ∷ [])) + (c + uses i ps) ≡ within b m i) (sym len) (omega (arith, v, u i, within-more b (length es) i a));
+      }
 
 -- the whole table: a sound one, and the program entry after it
 same-sort : (s : Sort) → sameSort s s ≡ true

@@ -47,32 +47,36 @@ module _ (b : ℕ) (ps : List Part) (p : ℕ) (s : Sort) where
   adds-zero : (l : Listing) (n : Node) → Made b ps l → Node-of n p [] s → Next l (adds n p (l .loose) (l .entries))
   adds-zero l n m h =
       let g = m .sound in
-      record
-        { loose = ap {B = List ℕ} (λ V. length (l .entries) ∷ V) (m .loose)
-        ; sound = sound-push b (l .entries) [] ps n p s (g .above) (g .good) tt (g .loose) (λ i. omega (arith, g .used i)) (h .has) (h .is) (h .inside) (h .few) (h .low) }
+      record {
+        loose = ap {B = List ℕ} (λ V. length (l .entries) ∷ V) (m .loose);
+        sound = sound-push b (l .entries) [] ps n p s (g .above) (g .good) tt (g .loose) (λ i. omega (arith, g .used i)) (h .has) (h .is) (h .inside) (h .few) (h .low);
+      }
 
   adds-one : (l : Listing) (f : ℕ → Node) (q : Part) → Made b (q ∷ ps) l → Node-of (f (q .at)) p (q ∷ []) s → Next l (one (l .entries) (l .loose) p f)
   adds-one l f q m h =
       let g = m .sound in
-      subst (λ V. Next l (one (l .entries) V p f)) (sym (m .loose)) (record
-        { loose = refl
-        ; sound = sound-push b (l .entries) (q ∷ []) ps (f (q .at)) p s (g .above) (g .good) (g .loose .0, g .loose .1, tt) (g .loose .2) (λ i. omega (arith, g .used i)) (h .has) (h .is) (h .inside) (h .few) (h .low) })
+      subst (λ V. Next l (one (l .entries) V p f)) (sym (m .loose)) (record {
+        loose = refl;
+        sound = sound-push b (l .entries) (q ∷ []) ps (f (q .at)) p s (g .above) (g .good) (g .loose .0, g .loose .1, tt) (g .loose .2) (λ i. omega (arith, g .used i)) (h .has) (h .is) (h .inside) (h .few) (h .low);
+      })
 
   adds-two : (l : Listing) (f : ℕ → ℕ → Node) (q r : Part) → Made b (r ∷ q ∷ ps) l → Node-of (f (q .at) (r .at)) p (q ∷ r ∷ []) s → Next l (two (l .entries) (l .loose) p f)
   adds-two l f q r m h =
       let g = m .sound in
       let st = g .loose in
-      subst (λ V. Next l (two (l .entries) V p f)) (sym (m .loose)) (record
-        { loose = refl
-        ; sound = sound-push b (l .entries) (q ∷ r ∷ []) ps (f (q .at) (r .at)) p s (g .above) (g .good) (st .2 .0, st .2 .1, (st .0, st .1, tt)) (st .2 .2) (λ i. omega (arith, g .used i)) (h .has) (h .is) (h .inside) (h .few) (h .low) })
+      subst (λ V. Next l (two (l .entries) V p f)) (sym (m .loose)) (record {
+        loose = refl;
+        sound = sound-push b (l .entries) (q ∷ r ∷ []) ps (f (q .at) (r .at)) p s (g .above) (g .good) (st .2 .0, st .2 .1, (st .0, st .1, tt)) (st .2 .2) (λ i. omega (arith, g .used i)) (h .has) (h .is) (h .inside) (h .few) (h .low);
+      })
 
   adds-three : (l : Listing) (f : ℕ → ℕ → ℕ → Node) (q r v : Part) → Made b (v ∷ r ∷ q ∷ ps) l → Node-of (f (q .at) (r .at) (v .at)) p (q ∷ r ∷ v ∷ []) s → Next l (three (l .entries) (l .loose) p f)
   adds-three l f q r v m h =
       let g = m .sound in
       let st = g .loose in
-      subst (λ V. Next l (three (l .entries) V p f)) (sym (m .loose)) (record
-        { loose = refl
-        ; sound = sound-push b (l .entries) (q ∷ r ∷ v ∷ []) ps (f (q .at) (r .at) (v .at)) p s (g .above) (g .good) (st .2 .2 .0, st .2 .2 .1, (st .2 .0, st .2 .1, (st .0, st .1, tt))) (st .2 .2 .2) (λ i. omega (arith, g .used i)) (h .has) (h .is) (h .inside) (h .few) (h .low) })
+      subst (λ V. Next l (three (l .entries) V p f)) (sym (m .loose)) (record {
+        loose = refl;
+        sound = sound-push b (l .entries) (q ∷ r ∷ v ∷ []) ps (f (q .at) (r .at) (v .at)) p s (g .above) (g .good) (st .2 .2 .0, st .2 .2 .1, (st .2 .0, st .2 .1, (st .0, st .1, tt))) (st .2 .2 .2) (λ i. omega (arith, g .used i)) (h .has) (h .is) (h .inside) (h .few) (h .low);
+      })
 
 -- a tree built is one more loose entry
 module _ (b : ℕ) where
@@ -117,13 +121,15 @@ decl-parts d = ap parts (node-entry (Decl (d .name) (d .type)) (d .label))
 decls-good : (b : ℕ) (t : List Entry) (k : ℕ) (ds : List (tree.Decl ℕ)) → BoundedDs ds → k + length (declEntries ds) ≤ b → AllGood b t k (declEntries ds)
 decls-good b t k [] h l = tt
 decls-good b t k (d ∷ ds) h l =
-    let n = Decl (d .name) (d .type) in
-    ( record
-        { says = known-entry n (d .label) (lt-ltb (d .name) 64 (h .1)) (h .0)
-        ; early = λ j. ap sort (node-entry n (d .label))
-        ; late = λ j. absurd (omega arith)
-        ; stands = subst (λ ps. Stand t k ps) (sym (decl-parts d)) tt }
-    , decls-good b t (suc k) ds (h .2) (omega arith) )
+    let n = Decl (d .name) (d .type) in (
+      record {
+        says = known-entry n (d .label) (lt-ltb (d .name) 64 (h .1)) (h .0);
+        early = λ j. ap sort (node-entry n (d .label));
+        late = λ j. absurd (omega arith);
+        stands = subst (λ ps. Stand t k ps) (sym (decl-parts d)) tt;
+      },
+      decls-good b t (suc k) ds (h .2) (omega arith),
+    )
 
 decls-unused : (i : ℕ) (ds : List (tree.Decl ℕ)) → allUses i (declEntries ds) ≡ 0
 decls-unused i [] = refl
@@ -132,13 +138,15 @@ decls-unused i (d ∷ ds) = ap₂ (λ (ps : List Part) (n : ℕ). uses i ps + n)
 decls-made : (ds : List (tree.Decl ℕ)) → BoundedDs ds → Made (length (declEntries ds)) [] (declares list ds (listing [] []))
 decls-made ds h =
     let es = declEntries ds in
-    subst (λ l. Made (length es) [] l) (sym (lists-decls ds [] [])) (record
-      { loose = refl
-      ; sound = record
-          { above = omega arith
-          ; good = decls-good (length es) es 0 ds h (omega arith)
-          ; loose = tt
-          ; used = λ i. omega (arith, decls-unused i ds, within-none (length es) i) } })
+    subst (λ l. Made (length es) [] l) (sym (lists-decls ds [] [])) (record {
+      loose = refl;
+      sound = record {
+        above = omega arith;
+        good = decls-good (length es) es 0 ds h (omega arith);
+        loose = tt;
+        used = λ i. omega (arith, decls-unused i ds, within-none (length es) i);
+      };
+    })
 
 -- the listing before the program entry
 abbrev bodied : tree.Program ℕ → Listing
@@ -175,5 +183,5 @@ listed-opens t h cap l k =
     let room = replicate cap blank in
     let len : length room ≡ cap = length-replicate cap blank in
     let c : counted (length (laid es room)) (length es) ≡ true =
-          and-from _ _ (le-leb 1 (length es) (entries-some t)) (and-from _ _ (le-leb (length es) 1024 l) (le-leb (length es) (length (laid es room)) (omega (arith, length-laid es room, len)))) in
+    and-from _ _ (le-leb 1 (length es) (entries-some t)) (and-from _ _ (le-leb (length es) 1024 l) (le-leb (length es) (length (laid es room)) (omega (arith, length-laid es room, len)))) in
     cond-true (counted (length (laid es room)) (length es)) _ _ c ∙ ap entriesOpen (take-laid es room (omega (arith, len))) ∙ entries-open t h

@@ -42,7 +42,8 @@ numberDs n (d ∷ ds) = record { label = n; name = d .name; type = d .type } ∷
 
 abbrev pub numbered : Program ℕ → Program ℕ
 numbered t =
-    record
-      { label = suc (lastC (length (t .decls)) (t .body))
-      ; decls = numberDs 0 (t .decls)
-      ; body = numberC (length (t .decls)) (t .body) }
+    record {
+      label = suc (lastC (length (t .decls)) (t .body));
+      decls = numberDs 0 (t .decls);
+      body = numberC (length (t .decls)) (t .body);
+    }

@@ -8,3 +8,8 @@ pub mod Asking
 pub mod OneTree
 pub mod Reasons
 pub mod Laws
+pub mod Bounded
+pub mod OpenTables
+pub mod OpenSteps
+pub mod OpenNumbered
+pub mod Opened

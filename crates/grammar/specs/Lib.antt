@@ -5,3 +5,5 @@ pub mod Automaton
 pub mod Listing
 pub mod Limits
 pub mod Spelling
+pub mod Bounded
+pub mod Numbered

@@ -58,3 +58,9 @@ list a s = lists a (s .loose) (s .entries)
 -- the entries of a tree labelled with places
 abbrev pub entriesOf : tree.Program ℕ → List Entry
 entriesOf t = builds list t (listing [] []) .entries
+
+-- entries over the front of a table
+abbrev pub laid : List Entry → List Entry → List Entry
+laid [] t = t
+laid (n ∷ ns) [] = []
+laid (n ∷ ns) (x ∷ t) = n ∷ laid ns t

@@ -6,7 +6,7 @@ ghost use Rattle.lexer.specs.Spelling.{letter, digit, alphanumeric, blank, sma
 ghost use Rattle.lexer.specs.Classes.{test};
 ghost use Rattle.lexer.specs.Limited.{decimal};
 
-pub fn is_letter(b: u8) -> bool
+pub(crate) fn is_letter(b: u8) -> bool
     ensures { λ r. ⌜ r ≡ letter b ⌝ }
 {
     match b as char {
@@ -15,7 +15,7 @@ pub fn is_letter(b: u8) -> bool
     }
 }
 
-pub fn is_digit(b: u8) -> bool
+pub(crate) fn is_digit(b: u8) -> bool
     ensures { λ r. ⌜ r ≡ digit b ⌝ }
 {
     match b as char {
@@ -24,13 +24,13 @@ pub fn is_digit(b: u8) -> bool
     }
 }
 
-pub fn is_alphanumeric(b: u8) -> bool
+pub(crate) fn is_alphanumeric(b: u8) -> bool
     ensures { λ r. ⌜ r ≡ alphanumeric b ⌝ }
 {
     is_letter(b) || is_digit(b)
 }
 
-pub fn is_blank(b: u8) -> bool
+pub(crate) fn is_blank(b: u8) -> bool
     ensures { λ r. ⌜ r ≡ blank b ⌝ }
 {
     match b as char {
@@ -40,7 +40,7 @@ pub fn is_blank(b: u8) -> bool
 }
 
 // The small letter of a capital; any other byte as it is.
-pub fn lowered(b: u8) -> u8
+pub(crate) fn lowered(b: u8) -> u8
     ensures { λ r. ⌜ r ≡ small b ⌝ }
 {
     match b as char {
@@ -51,13 +51,13 @@ pub fn lowered(b: u8) -> u8
 
 // What a run of bytes is made of.
 #[derive(Clone, Copy)]
-pub enum Class {
+pub(crate) enum Class {
     Alphanumeric,
     Digit,
 }
 
 impl Class {
-    pub fn has(self, b: u8) -> bool
+    pub(crate) fn has(self, b: u8) -> bool
         ensures { λ r. ⌜ r ≡ test self b ⌝ }
     {
         match self {
@@ -68,7 +68,7 @@ impl Class {
 }
 
 // How many bytes of the class stand at the front.
-pub fn run_length(text: &[u8], class: Class) -> usize
+pub(crate) fn run_length(text: &[u8], class: Class) -> usize
     ensures { λ r. ⌜ r ≡ run (test class) (now (text .entry)) ⌝ ∗ ⌜ r ≤ length (now (text .entry)) ⌝ }
 {
     let mut n = 0;
@@ -83,7 +83,9 @@ pub fn run_length(text: &[u8], class: Class) -> usize
     n
 }
 
-// The number that the digits spell, or nothing where it is over 2,147,483,647.
+const LARGEST: u64 = 2147483647;
+
+// The number that the digits spell, or nothing where it is too large.
 pub fn decimal(digits: &[u8]) -> Option<i32>
     ensures { λ r. ⌜ r ≡ decimal (now (digits .entry)) ⌝ }
 {
@@ -91,7 +93,7 @@ pub fn decimal(digits: &[u8]) -> Option<i32>
     let mut rest = digits;
     while let [b, more @ ..] = rest {
         n = 10 * n + b.saturating_sub(b'0') as u64;
-        if n > 2147483647 {
+        if n > LARGEST {
             return None;
         }
         rest = more;

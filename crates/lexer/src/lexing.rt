@@ -28,9 +28,9 @@ use crate::words::word_token;
 
 // What is left of a text, and its place.
 #[derive(Clone, Copy)]
-pub struct Cursor<'a> {
-    pub rest: &'a [u8],
-    pub place: usize,
+struct Cursor<'a> {
+    rest: &'a [u8],
+    place: usize,
 }
 
 // What stands after the comment that `text` is inside of, or nothing where it is not closed.

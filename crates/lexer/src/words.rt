@@ -161,7 +161,7 @@ fn required_identifier(word: &[u8]) -> Option<Token<'static>>
 }
 
 // A word is reserved or a name.
-pub fn word_token<'a>(word: &'a [u8]) -> Token<'a>
+pub(crate) fn word_token<'a>(word: &'a [u8]) -> Token<'a>
     ensures { λ r. ⌜ meant r ≡ keyword (now (word .entry)) ⌝ }
 {
     if let Some(token) = words_a_to_e(word) {

@@ -9,8 +9,8 @@ use Rattle.lexer.specs.Spelling.{value, valueFrom}
 use Rattle.lexer.proofs.Steps.{bools, behind, value-step, value-stop, value-grows, decimal-over, decimal-fits}
 use Rattle.lexer.proofs.bytes.decimal.Needs as need
 
-pub returns-then-n-gt2147483647 : need.returns-then-n-gt2147483647
-returns-then-n-gt2147483647 c =
+pub returns-then-n-gt-LARGEST : need.returns-then-n-gt-LARGEST
+returns-then-n-gt-LARGEST c =
     let xs = c .loop-rest .rest .now in
     let n = c .loop-rest .n in
     let some : 0 < length xs = omega (arith, bools) in

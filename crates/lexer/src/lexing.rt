@@ -8,12 +8,6 @@ ghost use Rattle.lexer.specs.Words.{symbol};
 ghost use Rattle.lexer.specs.Lexemes.{lexMeant, skip, symbolAt, wordAt, numberAt, lex};
 ghost use Rattle.lexer.specs.Found.{meantSome, others, gapMeant, Closes, Refuses};
 ghost use Rattle.lexer.specs.Limited.{asked};
-use grammar::symbols::Adding;
-use grammar::symbols::Mark;
-use grammar::symbols::Multiplying;
-use grammar::symbols::Operator;
-use grammar::symbols::Prefix;
-use grammar::symbols::Relation;
 use crate::bytes::Class;
 use crate::bytes::decimal;
 use crate::bytes::is_blank;
@@ -25,6 +19,12 @@ use crate::token::Question;
 use crate::token::Refusal;
 use crate::token::Token;
 use crate::words::word_token;
+use grammar::symbols::Adding;
+use grammar::symbols::Mark;
+use grammar::symbols::Multiplying;
+use grammar::symbols::Operator;
+use grammar::symbols::Prefix;
+use grammar::symbols::Relation;
 
 // What is left of a text, and its place.
 #[derive(Clone, Copy)]
@@ -43,7 +43,10 @@ fn after_comment<'a>(text: &'a [u8], place: usize) -> Option<Cursor<'a>>
     loop {
         match rest {
             [] => return None,
-            [b'}', more @ ..] => return Some(Cursor { rest: more, place: at + 1 }),
+            [b'}', more @ ..] => return Some(Cursor {
+                rest: more,
+                place: at + 1,
+            }),
             [_, more @ ..] => {
                 rest = more;
                 at += 1;
@@ -72,7 +75,10 @@ fn skip_gap<'a>(text: &'a [u8], place: usize) -> Result<Cursor<'a>, Refusal>
                     rest = end.rest;
                     at = end.place;
                 }
-                None => return Err(Refusal { question: Question::Token, place: at }),
+                None => return Err(Refusal {
+                    question: Question::Token,
+                    place: at,
+                }),
             },
             _ => return Ok(Cursor { rest, place: at }),
         }
@@ -107,11 +113,29 @@ fn symbol_lexeme<'a>(text: &'a [u8], place: usize) -> Result<Lexeme<'a>, Refusal
     ensures { λ r. ⌜ lexMeant r ≡ symbolAt place (now (text .entry)) ⌝ }
 {
     match text {
-        [] => Ok(Lexeme { token: Token::Mark(Mark::Stop), place, rest: text, after: place }),
-        [b':', b'=', rest @ ..] => Ok(Lexeme { token: Token::Mark(Mark::Becomes), place, rest, after: place + 2 }),
+        [] => Ok(Lexeme {
+            token: Token::Mark(Mark::Stop),
+            place,
+            rest: text,
+            after: place,
+        }),
+        [b':', b'=', rest @ ..] => Ok(Lexeme {
+            token: Token::Mark(Mark::Becomes),
+            place,
+            rest,
+            after: place + 2,
+        }),
         [b, rest @ ..] => match symbol_token(*b) {
-            Some(token) => Ok(Lexeme { token, place, rest, after: place + 1 }),
-            None => Err(Refusal { question: Question::Token, place }),
+            Some(token) => Ok(Lexeme {
+                token,
+                place,
+                rest,
+                after: place + 1,
+            }),
+            None => Err(Refusal {
+                question: Question::Token,
+                place,
+            }),
         },
     }
 }
@@ -123,7 +147,12 @@ fn word_lexeme<'a>(text: &'a [u8], place: usize) -> Lexeme<'a>
 {
     let n = run_length(text, Class::Alphanumeric);
     let (word, rest) = text.split_at(n);
-    Lexeme { token: word_token(word), place, rest, after: place + n }
+    Lexeme {
+        token: word_token(word),
+        place,
+        rest,
+        after: place + n,
+    }
 }
 
 // A number is digits that no letter touches.
@@ -134,8 +163,16 @@ fn number_lexeme<'a>(text: &'a [u8], place: usize) -> Result<Lexeme<'a>, Refusal
     let n = run_length(text, Class::Digit);
     let (digits, rest) = text.split_at(n);
     match rest {
-        [b, ..] if is_letter(*b) => Err(Refusal { question: Question::Token, place }),
-        _ => Ok(Lexeme { token: Token::Number(digits), place, rest, after: place + n }),
+        [b, ..] if is_letter(*b) => Err(Refusal {
+            question: Question::Token,
+            place,
+        }),
+        _ => Ok(Lexeme {
+            token: Token::Number(digits),
+            place,
+            rest,
+            after: place + n,
+        }),
     }
 }
 
@@ -162,8 +199,14 @@ pub fn next_limited<'a>(text: &'a [u8], place: usize) -> Result<Lexeme<'a>, Refu
 {
     let lexeme = next_token(text, place)?;
     match lexeme.token {
-        Token::Name(name) if name.len() > NAME_LENGTH => Err(Refusal { question: Question::NameLength, place: lexeme.place }),
-        Token::Number(digits) if decimal(digits).is_none() => Err(Refusal { question: Question::NumberSize, place: lexeme.place }),
+        Token::Name(name) if name.len() > NAME_LENGTH => Err(Refusal {
+            question: Question::NameLength,
+            place: lexeme.place,
+        }),
+        Token::Number(digits) if decimal(digits).is_none() => Err(Refusal {
+            question: Question::NumberSize,
+            place: lexeme.place,
+        }),
         _ => Ok(lexeme),
     }
 }

@@ -4,6 +4,8 @@ ghost use Rattle.lexer.specs.Spelling.{lowered, same};
 ghost use Rattle.lexer.specs.Words.{find, words-a-to-e, words-f-to-n, words-o-to-t, words-u-to-w, required};
 ghost use Rattle.lexer.specs.Lexemes.{meant, keyword};
 ghost use Rattle.lexer.specs.Found.{meantSome, others};
+use crate::bytes::lowered;
+use crate::token::Token;
 use grammar::symbols::Adding;
 use grammar::symbols::Mark;
 use grammar::symbols::Multiplying;
@@ -11,8 +13,6 @@ use grammar::symbols::Operator;
 use grammar::symbols::Prefix;
 use grammar::symbols::Start;
 use tosca::operators::SimpleType;
-use crate::bytes::lowered;
-use crate::token::Token;
 
 // Whether two words are spelled the same, capitals counting as small letters.
 pub fn same_word(a: &[u8], b: &[u8]) -> bool

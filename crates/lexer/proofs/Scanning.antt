@@ -1,5 +1,5 @@
 -- Each token but the end takes a byte or more, so the bound in a scan is never met; places and the end of a scan.
-use mathlib.Core.Path.{_≡_, refl, sym, ap, _∙_}
+use mathlib.Core.Path.{_≡_, refl, sym, ap, subst, _∙_}
 use mathlib.Core.Logic.{_⊎_, inl, inr, ⊎-elim}
 use mathlib.Core.Bool.{Bool, true, false, cond, _||_, _&&_}
 use mathlib.Core.List.{List, [], _∷_, _++_}
@@ -7,7 +7,7 @@ use Prim.Native.Nat.{ℕ, zero, suc, _+_, _-_, _<_, _≤_}
 use native.Mathlib.Omega.{arith}
 use lib.Dec.{leb, eqb}
 use lib.ListN.{length, take, drop, length-drop}
-use borrow.Author.Tests.{clash, leb-false}
+use borrow.Author.Tests.{clash, leb-false, lt-leb}
 use Rattle.std.specs.declared.option.Option.{Option}
 use Rattle.std.specs.declared.option.Option.the-variants.{Some, None}
 use Rattle.grammar.specs.declared.symbols.Mark.{Mark}
@@ -263,3 +263,131 @@ pub bad-place : (p e : ℕ) (s : Scan) {n q : ℕ} → Places p e s → ends s �
 bad-place p e (more r o s) h k = let t = bad-place (suc o) e s (h .2) k in (t .0, omega arith, t .2)
 bad-place p e (broken m o) {n} {q} h k = let x : m ≡ n = cc in let y : o ≡ q = cc in (sym x ∙ h .0, omega arith, omega arith)
 bad-place p e over h k = absurd (over-bad k)
+
+-- the end of the text
+
+pub stop-is : (r : Raw) → isStop r ≡ true → r ≡ other (mark Stop)
+stop-is (name w) h = absurd (clash h)
+stop-is (number w) h = absurd (clash h)
+stop-is (other (g.name n)) h = absurd (clash h)
+stop-is (other (g.lit l)) h = absurd (clash h)
+stop-is (other (g.op o)) h = absurd (clash h)
+stop-is (other (g.pre x)) h = absurd (clash h)
+stop-is (other (g.start x)) h = absurd (clash h)
+stop-is (other g.else′) h = absurd (clash h)
+stop-is (other g.unused) h = absurd (clash h)
+stop-is (other (g.ty x)) h = absurd (clash h)
+stop-is (other (mark Program)) h = absurd (clash h)
+stop-is (other (mark Var)) h = absurd (clash h)
+stop-is (other (mark Semicolon)) h = absurd (clash h)
+stop-is (other (mark Comma)) h = absurd (clash h)
+stop-is (other (mark Colon)) h = absurd (clash h)
+stop-is (other (mark Becomes)) h = absurd (clash h)
+stop-is (other (mark Close)) h = absurd (clash h)
+stop-is (other (mark Slash)) h = absurd (clash h)
+stop-is (other (mark Then)) h = absurd (clash h)
+stop-is (other (mark Do)) h = absurd (clash h)
+stop-is (other (mark End)) h = absurd (clash h)
+stop-is (other (mark Period)) h = absurd (clash h)
+stop-is (other (mark Stop)) h = refl
+
+closing-of : (e : ℕ) {p : ℕ} {bs : List ℕ} {s : Scan} → p + length bs ≡ e → Scans p bs s → ends s ≡ limits.over → (k : Known) → (front : List Item) × (items k s ≡ front ++ (at (mark Stop) e ∷ []))
+closing-of e h (breaks x) o k = absurd (over-bad (sym o))
+closing-of e {p} {bs} h (stops {r} {q} x st) o k =
+    let t = shorter-of p bs x in let l : q ≡ e = t .last st ∙ h in ([], ap (λ u. at (tok k u) q ∷ []) (stop-is r st) ∙ ap (λ u. at (mark Stop) u ∷ []) l)
+closing-of e {p} {bs} h (goes {r} {q} x go d) o k =
+    let t = shorter-of p bs x in let c = closing-of e (t .rest ∙ h) d o (learns k r) in (at (tok k r) q ∷ c .0, ap (λ u. at (tok k r) q ∷ u) (c .1))
+
+-- a scan that is not broken off ends with the end of the text, at the place after the last byte
+pub closing : (p : ℕ) (bs : List ℕ) (k : Known) → ends (scan p bs) ≡ limits.over → (front : List Item) × (items k (scan p bs) ≡ front ++ (at (mark Stop) (p + length bs) ∷ []))
+closing p bs k o = closing-of (p + length bs) refl (scans p bs) o k
+
+-- nothing stands after the end of the text
+abbrev pub Closed : Scan → Type 0
+Closed (more r q s) = (isStop r ≡ true → s ≡ over) × Closed s
+Closed (broken n q) = Unit {0}
+Closed over = Unit {0}
+
+closed-of : {p : ℕ} {bs : List ℕ} {s : Scan} → Scans p bs s → Closed s
+closed-of (breaks h) = tt
+closed-of (stops h k) = (λ _. refl, tt)
+closed-of (goes h k d) = (λ st. absurd (clash (sym k ∙ st)), closed-of d)
+
+pub closed : (p : ℕ) (bs : List ℕ) → Closed (scan p bs)
+closed p bs = closed-of (scans p bs)
+
+closed-keeps : (n q : ℕ) (s : Scan) → Closed s → Closed (keeps n q s)
+closed-keeps zero q s h = h
+closed-keeps (suc n) q s h = tt
+
+pub closed-limited : (s : Scan) → Closed s → Closed (limited s)
+closed-limited (more r q s) h = closed-keeps (limit r) q (more r q (limited s)) (λ st. ap limited (h .0 st), closed-limited s (h .1))
+closed-limited (broken n q) h = tt
+closed-limited over h = tt
+
+tok-stops : (k : Known) (r : Raw) → isStopTok (tok k r) ≡ isStop r
+tok-stops k (name w) = refl
+tok-stops k (number w) = refl
+tok-stops k (other t) = refl
+
+pub closed-ends : (k : Known) (s : Scan) → Closed s → Ends (items k s) (ends s)
+closed-ends k (more r q s) h = (λ st. let o = h .0 (sym (tok-stops k r) ∙ st) in (ap (items (learns k r)) o, ap ends o), closed-ends (learns k r) s (h .1))
+closed-ends k (broken n q) h = tt
+closed-ends k over h = tt
+
+pub ends-scan : (k : Known) (p : ℕ) (bs : List ℕ) → Ends (items k (scan p bs)) (ends (scan p bs))
+ends-scan k p bs = closed-ends k (scan p bs) (closed p bs)
+
+pub ends-limited : (k : Known) (p : ℕ) (bs : List ℕ) → Ends (items k (limited (scan p bs))) (ends (limited (scan p bs)))
+ends-limited k p bs = closed-ends k (limited (scan p bs)) (closed-limited (scan p bs) (closed p bs))
+
+-- the limits of single tokens
+
+pub moderate-limited : (s : Scan) → Moderate s → limited s ≡ s
+moderate-limited (more r q s) h = ap (λ n. keeps n q (more r q (limited s))) (h .0) ∙ ap (more r q) (moderate-limited s (h .1))
+moderate-limited (broken n q) h = refl
+moderate-limited over h = refl
+
+keeps-over : (n q : ℕ) (s : Scan) → ends (keeps n q s) ≡ limits.over → (n ≡ 0) × (ends s ≡ limits.over)
+keeps-over zero q s h = (refl, h)
+keeps-over (suc n) q s h = absurd (over-bad (sym h))
+
+limited-moderate : (s : Scan) → ends (limited s) ≡ limits.over → Moderate s
+limited-moderate (more r q s) h = let k = keeps-over (limit r) q (more r q (limited s)) h in (k .0, limited-moderate s (k .1))
+limited-moderate (broken n q) h = absurd (over-bad (sym h))
+limited-moderate over h = tt
+
+pub limited-over : (s : Scan) → ends (limited s) ≡ limits.over → (limited s ≡ s) × Moderate s
+limited-over s h = let m = limited-moderate s h in (moderate-limited s m, m)
+
+fails-at : {s : Scan} {m q n p : ℕ} → Fails s m q → bad m q ≡ bad n p → Fails s n p
+fails-at {s} {m} {q} {n} {p} f h = let x : m ≡ n = cc in let y : q ≡ p = cc in subst (λ u. Fails s u p) x (subst (λ u. Fails s m u) y f)
+
+fails-name : (w : List ℕ) (q : ℕ) (s : Scan) {n p : ℕ} → (ends (limited s) ≡ bad n p → Fails s n p) → (b : Bool) → leb (length w) 16 ≡ b → ends (keeps (cond b 0 3) q (more (name w) q (limited s))) ≡ bad n p → Fails (more (name w) q s) n p
+fails-name w q s on true k h = later (ap (λ b. cond b 0 3) k) (on h)
+fails-name w q s on false k h = fails-at (longName (leb-false (length w) 16 k)) h
+
+fails-number : (w : List ℕ) (q : ℕ) (s : Scan) {n p : ℕ} → (ends (limited s) ≡ bad n p → Fails s n p) → (b : Bool) → leb (value w) 2147483647 ≡ b → ends (keeps (cond b 0 4) q (more (number w) q (limited s))) ≡ bad n p → Fails (more (number w) q s) n p
+fails-number w q s on true k h = later (ap (λ b. cond b 0 4) k) (on h)
+fails-number w q s on false k h = fails-at (largeNumber (leb-false (value w) 2147483647 k)) h
+
+-- where the tokens stop is the first question with a no
+pub limited-fails : (s : Scan) {n p : ℕ} → ends (limited s) ≡ bad n p → Fails s n p
+limited-fails (more (name w) q s) h = fails-name w q s (limited-fails s) (leb (length w) 16) refl h
+limited-fails (more (number w) q s) h = fails-number w q s (limited-fails s) (leb (value w) 2147483647) refl h
+limited-fails (more (other t) q s) h = later refl (limited-fails s h)
+limited-fails (broken m q) h = fails-at noToken h
+limited-fails over h = absurd (over-bad h)
+
+pub fails-limited : {s : Scan} {n p : ℕ} → Fails s n p → ends (limited s) ≡ bad n p
+fails-limited noToken = refl
+fails-limited (longName {w} {p} {s} h) = ap (λ b. ends (keeps (cond b 0 3) p (more (name w) p (limited s)))) (lt-leb (length w) 16 h)
+fails-limited (largeNumber {ds} {p} {s} h) = ap (λ b. ends (keeps (cond b 0 4) p (more (number ds) p (limited s)))) (lt-leb (value ds) 2147483647 h)
+fails-limited (later {r} {q} {s = s} k f) = ap (λ n. ends (keeps n q (more r q (limited s)))) k ∙ fails-limited f
+
+-- such a token stands in the text
+pub fails-place : (p e : ℕ) {s : Scan} {n q : ℕ} → Places p e s → Fails s n q → (p ≤ q) × (q ≤ e)
+fails-place p e h noToken = (h .1, omega arith)
+fails-place p e h (longName k) = (h .0, h .1)
+fails-place p e h (largeNumber k) = (h .0, h .1)
+fails-place p e h (later {q} k f) = let t = fails-place (suc q) e (h .2) f in (omega arith, t .1)

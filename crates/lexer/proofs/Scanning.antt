@@ -74,6 +74,23 @@ left (inside o) p e (b ∷ bs) h =
 
 -- Tokens
 
+-- a name that has its number already, which no text has
+abbrev isName : Tok → Bool
+isName (g.name n) = true
+isName (g.lit l) = false
+isName (g.op o) = false
+isName (g.pre x) = false
+isName (g.start x) = false
+isName g.else′ = false
+isName g.unused = false
+isName (g.ty x) = false
+isName (mark m) = false
+
+abbrev pub named : Raw → Bool
+named (name w) = false
+named (number w) = false
+named (other t) = isName t
+
 -- the token r, read at p or after, stands at q; what is left begins at a and ends at e
 pub record Taken (p e : ℕ) (r : Raw) (q a : ℕ) (cs : List ℕ) : Type 0 where
   pub after : p ≤ q
@@ -81,14 +98,15 @@ pub record Taken (p e : ℕ) (r : Raw) (q a : ℕ) (cs : List ℕ) : Type 0 wher
   pub rest : a + length cs ≡ e
   pub takes : isStop r ≡ false → q < a
   pub last : isStop r ≡ true → q ≡ e
+  pub proper : named r ≡ false
 
 abbrev pub Bounded : ℕ → ℕ → Lexed → Type 0
 Bounded p e (lexeme r q a cs) = Taken p e r q a cs
 Bounded p e (none n q) = (n ≡ 2) × (p ≤ q) × (q < e)
 
 -- a token that takes n bytes
-taken : (p n : ℕ) (r : Raw) (cs : List ℕ) (e : ℕ) → isStop r ≡ false → 0 < n → p + n + length cs ≡ e → Taken p e r p (p + n) cs
-taken p n r cs e go some h = record { after = omega arith; forward = omega arith; rest = h; takes = λ _. omega arith; last = λ s. absurd (clash (sym go ∙ s)) }
+taken : (p n : ℕ) (r : Raw) (cs : List ℕ) (e : ℕ) → (isStop r ≡ false) × (named r ≡ false) → 0 < n → p + n + length cs ≡ e → Taken p e r p (p + n) cs
+taken p n r cs e go some h = record { after = omega arith; forward = omega arith; rest = h; takes = λ _. omega arith; last = λ s. absurd (clash (sym (go .0) ∙ s)); proper = go .1 }
 
 run-some : (f : ℕ → Bool) (b : ℕ) (bs : List ℕ) → f b ≡ true → 0 < run f (b ∷ bs)
 run-some f b bs e = rw e (omega arith)
@@ -100,22 +118,26 @@ run-within f (b ∷ bs) = let h = run-within f bs in by-cond (λ n. n ≤ suc (l
 dropped : (p n : ℕ) (bs : List ℕ) → n ≤ length bs → p + n + length (drop n bs) ≡ p + length bs
 dropped p n bs h = let e = length-drop n bs in omega arith
 
--- no reserved word is the end of the text
+-- no reserved word is the end of the text or a name
 abbrev plain : List Word → Bool
 plain [] = true
-plain (x ∷ xs) = cond (isStopTok (x .token)) false (plain xs)
+plain (x ∷ xs) = cond (isStopTok (x .token)) false (cond (isName (x .token)) false (plain xs))
 
 both : (a b : Bool) → cond a false b ≡ true → (a ≡ false) × (b ≡ true)
 both true b h = absurd (clash h)
 both false b h = (refl, h)
 
-word-goes : (w v : List ℕ) (xs : List Word) → plain xs ≡ true → isStop (wordOr w (find v xs)) ≡ false
-word-goes w v [] h = refl
-word-goes w v (x ∷ xs) h =
-    let k = both (isStopTok (x .token)) (plain xs) h in
-    by-cond (λ o. isStop (wordOr w o) ≡ false) (same v (x .spelled)) (Some (x .token)) (find v xs) (λ _. k .0) (λ _. word-goes w v xs (k .1))
+abbrev Proper : Raw → Type 0
+Proper r = (isStop r ≡ false) × (named r ≡ false)
 
-pub keyword-goes : (w : List ℕ) → isStop (keyword w) ≡ false
+word-goes : (w v : List ℕ) (xs : List Word) → plain xs ≡ true → Proper (wordOr w (find v xs))
+word-goes w v [] h = (refl, refl)
+word-goes w v (x ∷ xs) h =
+    let k = both (isStopTok (x .token)) (cond (isName (x .token)) false (plain xs)) h in
+    let l = both (isName (x .token)) (plain xs) (k .1) in
+    by-cond (λ o. Proper (wordOr w o)) (same v (x .spelled)) (Some (x .token)) (find v xs) (λ _. (k .0, l .0)) (λ _. word-goes w v xs (l .1))
+
+keyword-goes : (w : List ℕ) → Proper (keyword w)
 keyword-goes w = word-goes w (lowered w) reserved refl
 
 word-bounded : (p b : ℕ) (bs : List ℕ) → letter b ≡ true → Bounded p (p + length (b ∷ bs)) (wordAt p (b ∷ bs))
@@ -126,29 +148,29 @@ word-bounded p b bs h =
 number-bounded : (p b : ℕ) (bs : List ℕ) → digit b ≡ true → Bounded p (p + length (b ∷ bs)) (numberAt p (b ∷ bs))
 number-bounded p b bs h =
     by-cond (Bounded p (p + length (b ∷ bs))) (touched (drop (run digit (b ∷ bs)) (b ∷ bs))) _ _ (λ _. (refl, omega arith, omega arith))
-    (λ _. taken p (run digit (b ∷ bs)) (number (take (run digit (b ∷ bs)) (b ∷ bs))) (drop (run digit (b ∷ bs)) (b ∷ bs)) _ refl
+    (λ _. taken p (run digit (b ∷ bs)) (number (take (run digit (b ∷ bs)) (b ∷ bs))) (drop (run digit (b ∷ bs)) (b ∷ bs)) _ (refl, refl)
     (run-some digit b bs h) (dropped p (run digit (b ∷ bs)) (b ∷ bs) (run-within digit (b ∷ bs))))
 
 abbrev Goes : Option Tok → Type 0
-Goes (Some t) = isStopTok t ≡ false
+Goes (Some t) = Proper (other t)
 Goes None = Unit {0}
 
 symbol-goes : (b : ℕ) → Goes (symbol b)
 symbol-goes b =
-    let step : (c : ℕ) (t : Tok) (o : Option Tok) → isStopTok t ≡ false → Goes o → Goes (cond (eqb b c) (Some t) o) = λ c t o h k. by-cond Goes (eqb b c) (Some t) o (λ _. h) (λ _. k) in
-    step 43 _ _ refl (step 45 _ _ refl (step 42 _ _ refl (step 47 _ _ refl (step 40 _ _ refl (step 41 _ _ refl (step 61 _ _ refl (step 60 _ _ refl (step 62 _ _ refl (step 58 _ _ refl (step 59 _ _ refl (step 44 _ _ refl (step 46 _ _ refl tt))))))))))))
+    let step : (c : ℕ) (t : Tok) (o : Option Tok) → Proper (other t) → Goes o → Goes (cond (eqb b c) (Some t) o) = λ c t o h k. by-cond Goes (eqb b c) (Some t) o (λ _. h) (λ _. k) in
+    step 43 _ _ (refl, refl) (step 45 _ _ (refl, refl) (step 42 _ _ (refl, refl) (step 47 _ _ (refl, refl) (step 40 _ _ (refl, refl) (step 41 _ _ (refl, refl) (step 61 _ _ (refl, refl) (step 60 _ _ (refl, refl) (step 62 _ _ (refl, refl) (step 58 _ _ (refl, refl) (step 59 _ _ (refl, refl) (step 44 _ _ (refl, refl) (step 46 _ _ (refl, refl) tt))))))))))))
 
 symbol-or-bounded : (p : ℕ) (bs : List ℕ) (o : Option Tok) → Goes o → Bounded p (p + suc (length bs)) (symbolOr p bs o)
 symbol-or-bounded p bs (Some t) go = taken p 1 (other t) bs _ go (omega arith) (omega arith)
 symbol-or-bounded p bs None go = (refl, omega arith, omega arith)
 
 stop-bounded : (p : ℕ) → Bounded p (p + 0) (symbolAt p [])
-stop-bounded p = record { after = omega arith; forward = omega arith; rest = refl; takes = λ h. absurd (clash (sym h)); last = λ _. omega arith }
+stop-bounded p = record { after = omega arith; forward = omega arith; rest = refl; takes = λ h. absurd (clash (sym h)); last = λ _. omega arith; proper = refl }
 
 symbol-bounded : (p b : ℕ) (bs : List ℕ) → Bounded p (p + length (b ∷ bs)) (symbolAt p (b ∷ bs))
 symbol-bounded p b [] = symbol-or-bounded p [] (symbol b) (symbol-goes b)
 symbol-bounded p b (c ∷ bs) =
-    by-cond (Bounded p (p + length (b ∷ c ∷ bs))) (eqb b 58 && eqb c 61) _ _ (λ _. taken p 2 (other (mark Becomes)) bs _ refl (omega arith) (omega arith))
+    by-cond (Bounded p (p + length (b ∷ c ∷ bs))) (eqb b 58 && eqb c 61) _ _ (λ _. taken p 2 (other (mark Becomes)) bs _ (refl, refl) (omega arith) (omega arith))
     (λ _. symbol-or-bounded p (c ∷ bs) (symbol b) (symbol-goes b))
 
 token-bounded : (p : ℕ) (bs : List ℕ) → Bounded p (p + length bs) (tokenAt p bs)
@@ -158,7 +180,7 @@ token-bounded p (b ∷ bs) =
     (λ _. by-cond (Bounded p (p + length (b ∷ bs))) (digit b) _ _ (number-bounded p b bs) (λ _. symbol-bounded p b bs))
 
 weaken : (p q e : ℕ) (x : Lexed) → p ≤ q → Bounded q e x → Bounded p e x
-weaken p q e (lexeme r o a cs) h k = record { after = omega arith; forward = k .forward; rest = k .rest; takes = k .takes; last = k .last }
+weaken p q e (lexeme r o a cs) h k = record { after = omega arith; forward = k .forward; rest = k .rest; takes = k .takes; last = k .last; proper = k .proper }
 weaken p q e (none n o) h k = (k .0, omega arith, k .2)
 
 token-ends : (p e : ℕ) (bs : List ℕ) → p + length bs ≡ e → Bounded p e (tokenAt p bs)

@@ -3,3 +3,4 @@ pub mod Words
 pub mod Lexemes
 pub mod Scan
 pub mod Names
+pub mod NameLaws

@@ -183,7 +183,7 @@ weaken : (p q e : ℕ) (x : Lexed) → p ≤ q → Bounded q e x → Bounded p e
 weaken p q e (lexeme r o a cs) h k = record { after = omega arith; forward = k .forward; rest = k .rest; takes = k .takes; last = k .last; proper = k .proper }
 weaken p q e (none n o) h k = (k .0, omega arith, k .2)
 
-token-ends : (p e : ℕ) (bs : List ℕ) → p + length bs ≡ e → Bounded p e (tokenAt p bs)
+pub token-ends : (p e : ℕ) (bs : List ℕ) → p + length bs ≡ e → Bounded p e (tokenAt p bs)
 token-ends p e bs h = rw (← h) (token-bounded p bs)
 
 from-gap : (p e : ℕ) (s : Gap) → Left outside p e s → Bounded p e (lexFrom s)

@@ -278,3 +278,72 @@ scan-spot {b} {ds} p (goes h go d) k = sym (subst (Stands (spot (skip b ds))) h 
 spot-within : (p e : ℕ) (s : Gap) → Left outside p e s → (p ≤ spot s) × (spot s ≤ e)
 spot-within p e (gap q cs) l = (l .0, omega arith)
 spot-within p e (unclosed q) l = ⊎-elim (λ x. absurd x) (λ k. (k .0, omega arith)) l
+
+-- The cut itself
+
+-- bs, cut at c and going on with a blank, gives the tokens rs, and then those of what stands after the blank
+abbrev pub Cut : List ℕ → List Piece → ℕ → Type 0
+Cut bs rs c = (cs : List ℕ) → scan 0 (take c bs ++ (32 ∷ cs)) ≡ onto rs (scan (c + 1) cs)
+
+take-front : (xs ys : List ℕ) → take (length xs) (xs ++ ys) ≡ xs
+take-front [] ys = refl
+take-front (x ∷ xs) ys = ap (λ us. x ∷ us) (take-front xs ys)
+
+cut-at : {bs : List ℕ} {rs : List Piece} {b : ℕ} {ds : List ℕ} → Reaches 0 bs rs b ds → (c : ℕ) (us ys : List ℕ) → us ++ ys ≡ ds → b + length us ≡ c → ((cs : List ℕ) → lex b (us ++ (32 ∷ cs)) ≡ lex (c + 1) cs) → Cut bs rs c
+cut-at {bs} {rs} {b} d c us ys e k l cs =
+    let r = reaches-cut d us ys e in
+    let n : c ≡ length (r .kept) = omega (arith, r .far) in
+    let t : take c bs ≡ r .kept = ap₂ (λ i zs. take i zs) n (sym (r .parts)) ∙ take-front (r .kept) ys in
+    ap (λ zs. scan 0 (zs ++ (32 ∷ cs))) t ∙ scan-reaches (r .goes cs) ∙ ap (onto rs) (scan-same b (us ++ (32 ∷ cs)) (c + 1) cs (l cs))
+
+-- what a scan's first token says of the bytes
+abbrev Leads : ℕ → List ℕ → Scan → Type 0
+Leads p bs (more r q s) = ((isStop r ≡ true) × (s ≡ over)) ⊎ ((a : ℕ) × (cs : List ℕ) × (lex p bs ≡ lexeme r q a cs) × (isStop r ≡ false) × Scans a cs s)
+Leads p bs (broken n q) = Unit {0}
+Leads p bs over = Unit {0}
+
+leads : {p : ℕ} {bs : List ℕ} {s : Scan} → Scans p bs s → Leads p bs s
+leads (breaks h) = tt
+leads (stops h st) = inl (st, refl)
+leads (goes {a} {cs} h go d) = inr (a, cs, h, go, d)
+
+starts-some : (q : ℕ) (rs : List Piece) (s : Scan) → Starts q s → onto rs s ≡ over → ⊥
+starts-some q [] s h k = subst (Starts q) k h
+starts-some q (piece r p ∷ rs) s h k = let z : _≡_ {A = ℕ} 0 1 = cc in omega arith
+
+reach : (rs : List Piece) (p : ℕ) (bs : List ℕ) (q : ℕ) (s : Scan) → Starts q s → Scans p bs (onto rs s) → (b : ℕ) × (ds : List ℕ) × Reaches p bs rs b ds × Scans b ds s
+reach [] p bs q s h d = (p, bs, here, d)
+reach (piece r o ∷ rs) p bs q s h d =
+    ⊎-elim (λ k. absurd (starts-some q rs s h (k .1))) (λ k. let t = reach rs (k .0) (k .1) q s h (k .4) in (t .0, t .1, step (k .2) (k .3) (t .2), t .3)) (leads d)
+
+reach-scan : (bs : List ℕ) (rs : List Piece) (q : ℕ) (s : Scan) → Starts q s → scan 0 bs ≡ onto rs s → (b : ℕ) × (ds : List ℕ) × Reaches 0 bs rs b ds × Scans b ds s
+reach-scan bs rs q s h e = reach rs 0 bs q s h (subst (Scans 0 bs) e (scans 0 bs))
+
+-- before a token, or before bytes that are refused
+pub cut-before : (bs : List ℕ) (rs : List Piece) (p : ℕ) (s : Scan) → scan 0 bs ≡ onto rs s → Starts p s → Cut bs rs p
+cut-before bs rs p s e h =
+    let t = reach-scan bs rs p s h e in
+    let b = t .0 in let ds = t .1 in
+    let us = take (p - b) ds in let ys = drop (p - b) ds in
+    let q : spot (skip b ds) ≡ p = scan-spot p (t .3) h in
+    let i = spot-within b (b + length ds) (skip b ds) (left outside b (b + length ds) ds refl) in
+    let j = length-take (p - b) ds in
+    let k : b + length us ≡ p = omega arith in
+    let w : us ++ ys ≡ ds = take-append-drop (p - b) ds in
+    cut-at (t .2) p us ys w k (λ cs. ap lexFrom (skip-cut outside b p us ys (32 ∷ cs) tt (ap (λ zs. spot (skip b zs)) w ∙ q) k))
+
+reaches-far : {p : ℕ} {bs : List ℕ} {rs : List Piece} {b : ℕ} {ds : List ℕ} → Reaches p bs rs b ds → b + length ds ≡ p + length bs
+reaches-far here = refl
+reaches-far {p} {bs} (step h go d) = reaches-far d ∙ shorter-of p bs h .rest
+
+reaches-end : {p : ℕ} {bs : List ℕ} {rs : List Piece} {b : ℕ} {ds : List ℕ} {r : Raw} {q a : ℕ} {cs : List ℕ} → Reaches p bs rs b ds → lex b ds ≡ lexeme r q a cs → isStop r ≡ false → Reaches p bs (rs ++ (piece r q ∷ [])) a cs
+reaches-end here h go = step h go here
+reaches-end (step k on d) h go = step k on (reaches-end d h go)
+
+-- after a token that is not the end
+pub cut-after : (bs : List ℕ) (rs : List Piece) (r : Raw) (p : ℕ) (s : Scan) → scan 0 bs ≡ onto rs (more r p s) → isStop r ≡ false → (a : ℕ) × (p < a) × (a ≤ length bs) × Cut bs (rs ++ (piece r p ∷ [])) a
+cut-after bs rs r p s e go =
+    let t = reach-scan bs rs p (more r p s) refl e in
+    ⊎-elim (λ k. absurd (clash (sym go ∙ k .0)))
+    (λ k. let x = reaches-end (t .2) (k .2) go in let y = shorter-of (t .0) (t .1) (k .2) in let z = y .takes go in let f = reaches-far x in
+    (k .0, z, omega arith, cut-at x (k .0) [] (k .1) refl (omega arith) (λ cs. refl))) (leads (t .3))

@@ -278,7 +278,7 @@ places-of e {p} {bs} h (goes {q} {a} {s = s} k go d) =
 pub places : (p : ℕ) (bs : List ℕ) → Places p (p + length bs) (scan p bs)
 places p bs = places-of (p + length bs) refl (scans p bs)
 
-over-bad : {n q : ℕ} → limits.over ≡ bad n q → ⊥
+pub over-bad : {n q : ℕ} → limits.over ≡ bad n q → ⊥
 over-bad h = let z : _≡_ {A = ℕ} 0 1 = cc in absurd (omega arith)
 
 pub bad-place : (p e : ℕ) (s : Scan) {n q : ℕ} → Places p e s → ends s ≡ bad n q → (n ≡ 2) × (p ≤ q) × (q < e)

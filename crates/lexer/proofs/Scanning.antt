@@ -347,7 +347,7 @@ closed-limited (more r q s) h = closed-keeps (limit r) q (more r q (limited s)) 
 closed-limited (broken n q) h = tt
 closed-limited over h = tt
 
-tok-stops : (k : Known) (r : Raw) → isStopTok (tok k r) ≡ isStop r
+pub tok-stops : (k : Known) (r : Raw) → isStopTok (tok k r) ≡ isStop r
 tok-stops k (name w) = refl
 tok-stops k (number w) = refl
 tok-stops k (other t) = refl

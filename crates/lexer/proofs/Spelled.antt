@@ -20,9 +20,10 @@ use Rattle.grammar.specs.Limits.{Simple, AllSimple, placedFrom, bad, isStop as 
 use Rattle.grammar.specs.Limits as limits
 use Rattle.lexer.specs.Spelling.{lowered}
 use Rattle.lexer.specs.Lexemes.{Raw, name, number, other, Lexed, lexeme, none, lex}
-use Rattle.lexer.specs.Scan.{Scan, more, broken, over, isStop, scan, limited}
+use Rattle.lexer.specs.Scan.{Scan, more, broken, over, isStop, scan, limit, keeps, limited}
 use Rattle.lexer.specs.Names.{index, noted, Known, known, nothing, numbered, after, tok, learns, items, ends}
 use Rattle.lexer.specs.NameLaws.{Piece, piece, onto, placed, taught}
+use Rattle.lexer.proofs.Scanning.{tok-stops}
 use Rattle.lexer.proofs.Numbering.{index-noted}
 use Rattle.lexer.proofs.Cutting.{Cut, Starts, cut-before, cut-after, scan-step, scan-same}
 use Rattle.lexer.proofs.Splitting.{items-onto, ends-onto, placed-end, split, limited-onto, next-more, next-broken}
@@ -200,3 +201,47 @@ completed-cut bs rs c cut give =
     (n, cs, spots (c + 1) us,
      ap (items nothing) (cut (spelled us)) ∙ items-onto nothing rs (scan (c + 1) (spelled us)) ∙ ap (λ xs. placed nothing rs ++ xs) (items-spelled us n (c + 1) k (ready-taught nothing rs (λ _. refl)) refl (give n .1)),
      ap ends (cut (spelled us)) ∙ ends-onto rs (scan (c + 1) (spelled us)) ∙ ends-spelled us n (c + 1) (give n .1))
+
+starts-keeps : (p n q : ℕ) (r : Raw) (s t : Scan) → Starts p (keeps n q (more r q s)) → Starts p (more r q t)
+starts-keeps p zero q r s t h = h
+starts-keeps p (suc n) q r s t h = h
+
+starts-limited : (p : ℕ) (s : Scan) → Starts p (limited s) → Starts p s
+starts-limited p (more r q s) h = starts-keeps p (limit r) q r (limited s) s h
+starts-limited p (broken n q) h = h
+starts-limited p over h = h
+
+-- what is first in the limited scan is there in the scan
+cut-limited : (bs : List ℕ) (rs : List Piece) (p : ℕ) (s : Scan) → limited (scan 0 bs) ≡ onto rs s → Starts p s → Cut bs rs p
+cut-limited bs rs p s e h =
+    let l = limited-onto rs (scan 0 bs) s e in
+    cut-before bs rs p (l .0) (l .1) (starts-limited p (l .0) (subst (Starts p) (sym (l .2)) h))
+
+-- a text can be completed before any token
+pub completed : (bs : List ℕ) (front rest : List Item) (t : Tok) (p : ℕ) → items nothing (limited (scan 0 bs)) ≡ front ++ (at t p ∷ rest) → (give : (n : ℕ) → (us : List Tok) × AllSimple n us) → Completed bs p front give
+completed bs front rest t p h give =
+    let x = split front (at t p ∷ rest) nothing (limited (scan 0 bs)) h in
+    let y = next-more (taught nothing (x .pieces)) (x .rest) (x .then) in
+    let c = cut-limited bs (x .pieces) p (x .rest) (x .is) (subst (Starts p) (sym (y .2)) refl) in
+    subst (λ f. Completed bs p f give) (x .first) (completed-cut bs (x .pieces) p c give)
+
+-- before bytes that are refused
+pub completed-end : (bs : List ℕ) (front : List Item) (m p : ℕ) → items nothing (limited (scan 0 bs)) ≡ front → ends (limited (scan 0 bs)) ≡ bad m p → (give : (n : ℕ) → (us : List Tok) × AllSimple n us) → Completed bs p front give
+completed-end bs front m p h e give =
+    let x = split front [] nothing (limited (scan 0 bs)) (h ∙ sym (append-nil front)) in
+    let y = next-broken (taught nothing (x .pieces)) (x .rest) (x .then) (sym (ends-onto (x .pieces) (x .rest)) ∙ ap ends (sym (x .is)) ∙ e) in
+    let c = cut-limited bs (x .pieces) p (x .rest) (x .is) (subst (Starts p) (sym y) refl) in
+    subst (λ f. Completed bs p f give) (x .first) (completed-cut bs (x .pieces) p c give)
+
+-- and after any token but the end
+pub completed-after : (bs : List ℕ) (front rest : List Item) (t : Tok) (p : ℕ) → items nothing (limited (scan 0 bs)) ≡ front ++ (at t p ∷ rest) → isStopTok t ≡ false → (give : (n : ℕ) → (us : List Tok) × AllSimple n us) → (a : ℕ) × (p < a) × (a ≤ length bs) × Completed bs a (front ++ (at t p ∷ [])) give
+completed-after bs front rest t p h go give =
+    let x = split front (at t p ∷ rest) nothing (limited (scan 0 bs)) h in
+    let k = taught nothing (x .pieces) in
+    let y = next-more k (x .rest) (x .then) in
+    let r = y .0 in
+    let l = limited-onto (x .pieces) (scan 0 bs) (x .rest) (x .is) in
+    let m = limited-onto (piece r p ∷ []) (l .0) (y .1) (l .2 ∙ y .2) in
+    let c = cut-after bs (x .pieces) r p (m .0) (l .1 ∙ ap (onto (x .pieces)) (m .1)) (sym (tok-stops k r) ∙ ap isStopTok (y .3) ∙ go) in
+    let f : placed nothing (x .pieces ++ (piece r p ∷ [])) ≡ front ++ (at t p ∷ []) = placed-end nothing (x .pieces) r p ∙ ap₂ (λ xs u. xs ++ (at u p ∷ [])) (x .first) (y .3) in
+    (c .0, c .1, c .2, subst (λ z. Completed bs (c .0) z give) f (completed-cut bs (x .pieces ++ (piece r p ∷ [])) (c .0) (c .3) give))

@@ -1,5 +1,5 @@
 pub mod Scanning
+pub mod Splitting
 pub mod Numbering
 pub mod Cutting
-pub mod Splitting
 pub mod Spelled

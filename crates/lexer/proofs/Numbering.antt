@@ -13,10 +13,11 @@ use Rattle.grammar.specs.Tokens as g
 use Rattle.grammar.specs.Limits.{few}
 use Rattle.lexer.specs.Spelling.{lowered, same}
 use Rattle.lexer.specs.Lexemes.{Raw, name, number, other}
-use Rattle.lexer.specs.Scan.{Scan, more, broken, over}
+use Rattle.lexer.specs.Scan.{Scan, more, broken, over, scan, limited}
 use Rattle.lexer.specs.Names.{index, noted, Known, known, nothing, numbered, after, tok, learns, items}
 use Rattle.lexer.specs.NameLaws.{Piece, piece, onto, placed, taught, called, In, Distinct, OneTooMany, Few, NameLaw}
-use Rattle.lexer.proofs.Scanning.{by-cond, decide}
+use Rattle.lexer.proofs.Scanning.{by-cond, named, shorter-of, Scans, breaks, stops, goes, scans}
+use Rattle.lexer.proofs.Splitting.{split, limited-onto, next-more}
 
 pub same-refl : (w : List ℕ) → same w w ≡ true
 same-refl [] = refl
@@ -71,3 +72,141 @@ index-present w (x ∷ xs) h = look (same w x) refl h (index-present w xs)
     look : (b : Bool) → same w x ≡ b → cond b 0 (suc (index w xs)) < suc (length xs) → (index w xs < length xs → In w xs) → In w (x ∷ xs)
     look true e k on = inl (same-is w x e)
     look false e k on = inr (on (omega arith))
+
+-- membership
+
+in-left : (x : List ℕ) (xs ys : List (List ℕ)) → In x xs → In x (xs ++ ys)
+in-left x [] ys i = absurd i
+in-left x (z ∷ xs) ys i = ⊎-elim inl (λ j. inr (in-left x xs ys j)) i
+
+in-end : (x : List ℕ) (xs : List (List ℕ)) → In x (xs ++ (x ∷ []))
+in-end x [] = inl refl
+in-end x (z ∷ xs) = inr (in-end x xs)
+
+in-either : (x w : List ℕ) (xs : List (List ℕ)) → In x (xs ++ (w ∷ [])) → In x xs ⊎ (x ≡ w)
+in-either x w [] i = ⊎-elim inr (λ j. absurd j) i
+in-either x w (z ∷ xs) i = ⊎-elim (λ e. inl (inl e)) (λ j. ⊎-elim (λ k. inl (inr k)) inr (in-either x w xs j)) i
+
+distinct-end : (w : List ℕ) (xs : List (List ℕ)) → Distinct xs → (In w xs → ⊥) → Distinct (xs ++ (w ∷ []))
+distinct-end w [] d a = (λ i. i, tt)
+distinct-end w (x ∷ xs) d a = (λ i. ⊎-elim (d .0) (λ e. a (inl (sym e))) (in-either x w xs i), distinct-end w xs (d .1) (λ i. a (inr i)))
+
+-- the list with the word in it
+
+noted-distinct : (w : List ℕ) (xs : List (List ℕ)) → Distinct xs → Distinct (noted w xs)
+noted-distinct w xs d =
+    by-cond Distinct (ltb (index w xs) (length xs)) xs (xs ++ (w ∷ [])) (λ _. d)
+    (λ h. let l = ltb-false (index w xs) (length xs) h in let i = index-within w xs in distinct-end w xs d (index-absent w xs (omega arith)))
+
+noted-old : (x w : List ℕ) (xs : List (List ℕ)) → In x xs → In x (noted w xs)
+noted-old x w xs i = by-cond (In x) (ltb (index w xs) (length xs)) xs (xs ++ (w ∷ [])) (λ _. i) (λ _. in-left x xs (w ∷ []) i)
+
+noted-new : (w : List ℕ) (xs : List (List ℕ)) → In w (noted w xs)
+noted-new w xs = by-cond (In w) (ltb (index w xs) (length xs)) xs (xs ++ (w ∷ [])) (λ h. index-present w xs (ltb-true (index w xs) (length xs) h)) (λ _. in-end w xs)
+
+noted-only : (x w : List ℕ) (xs : List (List ℕ)) → In x (noted w xs) → In x xs ⊎ (x ≡ w)
+noted-only x w xs = by-cond (λ ys. In x ys → In x xs ⊎ (x ≡ w)) (ltb (index w xs) (length xs)) xs (xs ++ (w ∷ [])) (λ _ i. inl i) (λ _ i. in-either x w xs i)
+
+noted-few : (w : List ℕ) (xs : List (List ℕ)) → length xs ≤ 64 → index w xs < 64 → length (noted w xs) ≤ 64
+noted-few w xs l h =
+    by-cond (λ ys. length ys ≤ 64) (ltb (index w xs) (length xs)) xs (xs ++ (w ∷ [])) (λ _. l)
+    (λ k. let i = ltb-false (index w xs) (length xs) k in let j = length-append xs (w ∷ []) in omega arith)
+
+-- the list with all these words in it
+abbrev gathered : List (List ℕ) → List (List ℕ) → List (List ℕ)
+gathered ns [] = ns
+gathered ns (w ∷ ws) = gathered (noted w ns) ws
+
+gathered-distinct : (ns ws : List (List ℕ)) → Distinct ns → Distinct (gathered ns ws)
+gathered-distinct ns [] d = d
+gathered-distinct ns (w ∷ ws) d = gathered-distinct (noted w ns) ws (noted-distinct w ns d)
+
+gathered-old : (x : List ℕ) (ns ws : List (List ℕ)) → In x ns → In x (gathered ns ws)
+gathered-old x ns [] i = i
+gathered-old x ns (w ∷ ws) i = gathered-old x (noted w ns) ws (noted-old x w ns i)
+
+gathered-new : (x : List ℕ) (ns ws : List (List ℕ)) → In x ws → In x (gathered ns ws)
+gathered-new x ns [] i = absurd i
+gathered-new x ns (w ∷ ws) i = ⊎-elim (λ e. gathered-old x (noted w ns) ws (subst (λ v. In v (noted w ns)) (sym e) (noted-new w ns))) (gathered-new x (noted w ns) ws) i
+
+gathered-only : (x : List ℕ) (ns ws : List (List ℕ)) → In x (gathered ns ws) → In x ns ⊎ In x ws
+gathered-only x ns [] i = inl i
+gathered-only x ns (w ∷ ws) i = ⊎-elim (λ j. ⊎-elim inl (λ e. inr (inl e)) (noted-only x w ns j)) (λ j. inr (inr j)) (gathered-only x (noted w ns) ws i)
+
+-- what is known, by the names that were read
+
+taught-titled : (ns : List (List ℕ)) (rs : List Piece) → taught (known true ns) rs ≡ known true (gathered ns (called rs))
+taught-titled ns [] = refl
+taught-titled ns (piece (name w) p ∷ rs) = taught-titled (noted (lowered w) ns) rs
+taught-titled ns (piece (number w) p ∷ rs) = taught-titled ns rs
+taught-titled ns (piece (other t) p ∷ rs) = taught-titled ns rs
+
+taught-first : (rs : List Piece) → taught nothing rs .titled ≡ true → taught nothing rs .names ≡ gathered [] (drop 1 (called rs))
+taught-first [] h = absurd (clash h)
+taught-first (piece (name w) p ∷ rs) h = ap (λ k. k .names) (taught-titled [] rs)
+taught-first (piece (number w) p ∷ rs) h = taught-first rs h
+taught-first (piece (other t) p ∷ rs) h = taught-first rs h
+
+few-titled : (ns : List (List ℕ)) (rs : List Piece) → length ns ≤ 64 → Few (placed (known true ns) rs) → length (gathered ns (called rs)) ≤ 64
+few-titled ns [] l f = l
+few-titled ns (piece (name w) p ∷ rs) l f = few-titled (noted (lowered w) ns) rs (noted-few (lowered w) ns l (ltb-true (index (lowered w) ns) 64 (f .0))) (f .1)
+few-titled ns (piece (number w) p ∷ rs) l f = few-titled ns rs l (f .1)
+few-titled ns (piece (other t) p ∷ rs) l f = few-titled ns rs l (f .1)
+
+few-first : (rs : List Piece) → Few (placed nothing rs) → length (gathered [] (drop 1 (called rs))) ≤ 64
+few-first [] f = omega arith
+few-first (piece (name w) p ∷ rs) f = few-titled [] rs (omega arith) (f .1)
+few-first (piece (number w) p ∷ rs) f = few-first rs (f .1)
+few-first (piece (other t) p ∷ rs) f = few-first rs (f .1)
+
+-- only names become names
+abbrev Written : Scan → Type 0
+Written (more r q s) = (named r ≡ false) × Written s
+Written (broken n q) = Unit {0}
+Written over = Unit {0}
+
+written-of : {p : ℕ} {bs : List ℕ} {s : Scan} → Scans p bs s → Written s
+written-of (breaks h) = tt
+written-of {p} {bs} (stops h st) = (shorter-of p bs h .proper, tt)
+written-of {p} {bs} (goes h go d) = (shorter-of p bs h .proper, written-of d)
+
+written-onto : (rs : List Piece) (s : Scan) → Written (onto rs s) → Written s
+written-onto [] s h = h
+written-onto (piece r p ∷ rs) s h = written-onto rs s (h .1)
+
+name-of : (k : Known) (r : Raw) (m : ℕ) → named r ≡ false → tok k r ≡ g.name m → (w : List ℕ) × (r ≡ name w) × (numbered k w ≡ m)
+name-of k (name w) m h e = let x : numbered k w ≡ m = cc in (w, refl, x)
+name-of k (number w) m h e = let z : _≡_ {A = ℕ} 0 1 = cc in absurd (omega arith)
+name-of k (other t) m h e = absurd (clash (sym h ∙ ap (λ u. named (other u)) e))
+
+titled-of : (t : Bool) (ns : List (List ℕ)) (w : List ℕ) → 64 ≤ numbered (known t ns) w → t ≡ true
+titled-of true ns w h = refl
+titled-of false ns w h = absurd (omega arith)
+
+number-of : (t : Bool) (ns : List (List ℕ)) (w : List ℕ) → t ≡ true → numbered (known t ns) w ≡ index (lowered w) ns
+number-of true ns w h = refl
+number-of false ns w h = absurd (clash h)
+
+pub name-law : NameLaw
+name-law bs front rest m p h few many =
+    let x = split front (at (g.name m) p ∷ rest) nothing (limited (scan 0 bs)) h in
+    let rs = x .pieces in let k = taught nothing rs in
+    let y = next-more k (x .rest) (x .then) in
+    let r = y .0 in
+    let l = limited-onto rs (scan 0 bs) (x .rest) (x .is) in
+    let n = limited-onto (piece r p ∷ []) (l .0) (y .1) (l .2 ∙ y .2) in
+    let whole : scan 0 bs ≡ onto rs (more r p (n .0)) = l .1 ∙ ap (onto rs) (n .1) in
+    let v = written-onto rs (more r p (n .0)) (subst Written whole (written-of (scans 0 bs))) in
+    let u = name-of k r m (v .0) (y .3) in
+    let w = u .0 in
+    let t : k .titled ≡ true = titled-of (k .titled) (k .names) w (omega (arith, u .2)) in
+    let os = gathered [] (drop 1 (called rs)) in
+    let i : index (lowered w) os ≡ m = ap (index (lowered w)) (sym (taught-first rs t)) ∙ sym (number-of (k .titled) (k .names) w t) ∙ u .2 in
+    let f = few-first rs (subst Few (sym (x .first)) few) in
+    let j = index-within (lowered w) os in
+    let c : length os ≡ 64 = omega arith in
+    record {
+      before = rs; word = w; rest = n .0; stands = whole ∙ ap (λ a. onto rs (more a p (n .0))) (u .1);
+      others = os; count = c; different = gathered-distinct [] (drop 1 (called rs)) tt;
+      each = λ z. (gathered-new z [] (drop 1 (called rs)), λ q. ⊎-elim (λ b. absurd b) (λ b. b) (gathered-only z [] (drop 1 (called rs)) q));
+      another = index-absent (lowered w) os (omega arith) }

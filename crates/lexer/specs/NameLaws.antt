@@ -10,7 +10,7 @@ use Rattle.grammar.specs.Tokens as g
 use Rattle.grammar.specs.Limits.{few}
 use Rattle.lexer.specs.Spelling.{lowered}
 use Rattle.lexer.specs.Lexemes.{Raw, name, number, other}
-use Rattle.lexer.specs.Scan.{Scan, more}
+use Rattle.lexer.specs.Scan.{Scan, more, scan, limited}
 use Rattle.lexer.specs.Names.{Known, nothing, tok, learns, items}
 
 -- a token as it is written, and its place
@@ -66,4 +66,4 @@ Few (at t p ∷ ts) = (few t ≡ true) × Few ts
 
 -- the first name with a number above 63 is the first that is one too many
 abbrev pub NameLaw : Type 0
-NameLaw = (s : Scan) (front rest : List Item) (m p : ℕ) → items nothing s ≡ front ++ (at (g.name m) p ∷ rest) → Few front → 64 ≤ m → OneTooMany s p
+NameLaw = (bs : List ℕ) (front rest : List Item) (m p : ℕ) → items nothing (limited (scan 0 bs)) ≡ front ++ (at (g.name m) p ∷ rest) → Few front → 64 ≤ m → OneTooMany (scan 0 bs) p

@@ -1,24 +1,22 @@
 -- A text may be cut before or after any token, and go on with a blank and other bytes: the tokens before the cut stay.
 use mathlib.Core.Path.{_≡_, refl, sym, ap, ap₂, subst, _∙_}
 use mathlib.Core.Logic.{_⊎_, inl, inr, ⊎-elim}
-use mathlib.Core.Bool.{Bool, true, false, cond, _||_, _&&_, and-false}
-use mathlib.Core.List.{List, [], _∷_, _++_, nil≢cons, head-eq-of-cons-eq, tail-eq-of-cons-eq, append-cancel-right, append-assoc}
-use Prim.Native.Nat.{ℕ, zero, suc, _+_, _-_, _<_, _≤_}
+use mathlib.Core.Bool.{Bool, true, false, cond, _&&_, and-false}
+use mathlib.Core.List.{List, [], _∷_, _++_, append-cancel-right, append-assoc}
+use Prim.Native.Nat.{ℕ, suc, _+_, _-_, _<_, _≤_}
 use native.Mathlib.Omega.{arith}
 use lib.Dec.{eqb}
 use lib.ListN.{length, take, drop, length-append, length-take, length-drop, take-append-drop}
 use borrow.Author.Tests.{clash}
 use Rattle.std.specs.declared.option.Option.{Option}
 use Rattle.std.specs.declared.option.Option.the-variants.{Some, None}
-use Rattle.grammar.specs.declared.symbols.Mark.the-variants.{Becomes, Stop}
-use Rattle.grammar.specs.Tokens.{Tok, Item, at, mark}
-use Rattle.grammar.specs.Limits.{bad}
+use Rattle.grammar.specs.declared.symbols.Mark.the-variants.{Becomes}
+use Rattle.grammar.specs.Tokens.{Tok, mark}
 use Rattle.lexer.specs.Spelling.{letter, digit, alphanumeric, blank, run}
 use Rattle.lexer.specs.Words.{symbol}
-use Rattle.lexer.specs.Lexemes.{Raw, name, number, other, Gap, gap, unclosed, Mode, outside, inside, skipIn, skip, Lexed, lexeme, none, symbolOr, symbolAt, keyword, wordAt, touched, numberAt, tokenAt, lexFrom, lex}
-use Rattle.lexer.specs.Scan.{Scan, more, broken, over, isStop, onward, scan, limit, keeps, limited}
-use Rattle.lexer.specs.Names.{Known, tok, learns, items, ends}
-use Rattle.lexer.specs.NameLaws.{Piece, piece, onto, placed, taught}
+use Rattle.lexer.specs.Lexemes.{Raw, number, other, Gap, gap, unclosed, Mode, outside, inside, skipIn, skip, Lexed, lexeme, none, symbolOr, symbolAt, keyword, wordAt, touched, numberAt, tokenAt, lexFrom, lex}
+use Rattle.lexer.specs.Scan.{Scan, more, broken, over, isStop, onward, scan}
+use Rattle.lexer.specs.NameLaws.{Piece, piece, onto}
 use Rattle.lexer.proofs.Scanning.{by-cond, Left, left, run-within, Taken, Bounded, token-ends, shorter-of, Scans, breaks, stops, goes, scans, unfolds}
 
 by-cond₂ : {X : Type 0} (P : X → X → Type 0) (b : Bool) (x y u v : X) → (b ≡ true → P x u) → (b ≡ false → P y v) → P (cond b x y) (cond b u v)
@@ -41,9 +39,6 @@ none-lexeme h = let z : _≡_ {A = ℕ} 0 1 = cc in absurd (omega arith)
 -- where ys follows, a token before it is read whole, and stays as it is where ws follows
 abbrev Stays : List ℕ → List ℕ → Lexed → Lexed → Type 0
 Stays ys ws x y = (r : Raw) (q a : ℕ) (zs : List ℕ) → x ≡ lexeme r q a (zs ++ ys) → isStop r ≡ false → y ≡ lexeme r q a (zs ++ ws)
-
-longer : (ys zs : List ℕ) (n : ℕ) → n < length ys → length (zs ++ ys) ≡ n → ⊥
-longer ys zs n h k = let l = length-append zs ys in omega arith
 
 -- two runs take the same bytes, and the second leaves these
 record Runs (n m : ℕ) (us vs left : List ℕ) : Type 0 where

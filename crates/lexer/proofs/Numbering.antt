@@ -1,23 +1,22 @@
 -- The numbers of names.
 use mathlib.Core.Path.{_≡_, refl, sym, ap, ap₂, subst, _∙_}
-use mathlib.Core.Logic.{_⊎_, inl, inr, ⊎-elim}
+use mathlib.Core.Logic.{_⊎_, inl, inr, ⊎-elim, _↔_}
 use mathlib.Core.Bool.{Bool, true, false, cond, _&&_}
 use mathlib.Core.List.{List, [], _∷_, _++_}
-use Prim.Native.Nat.{ℕ, zero, suc, _+_, _<_, _≤_}
+use Prim.Native.Nat.{ℕ, suc, _<_, _≤_}
 use native.Mathlib.Omega.{arith}
 use lib.Dec.{eqb, ltb}
 use lib.ListN.{length, drop, length-append}
-use borrow.Author.Tests.{clash, eqb-true, eq-eqb, ltb-true, ltb-false, lt-ltb, le-ltb}
-use Rattle.grammar.specs.Tokens.{Tok, Item, at}
+use borrow.Author.Tests.{clash, eqb-true, eq-eqb, ltb-true, ltb-false, lt-ltb}
 use Rattle.grammar.specs.Tokens as g
 use Rattle.grammar.specs.Limits.{few}
 use Rattle.lexer.specs.Spelling.{lowered, same}
 use Rattle.lexer.specs.Lexemes.{Raw, name, number, other}
-use Rattle.lexer.specs.Scan.{Scan, more, broken, over, scan, limited}
-use Rattle.lexer.specs.Names.{index, noted, Known, known, nothing, numbered, after, tok, learns, items}
-use Rattle.lexer.specs.NameLaws.{Piece, piece, onto, placed, taught, called, In, Distinct, OneTooMany, Few, NameLaw}
+use Rattle.lexer.specs.Scan.{Scan, more, broken, over, scan}
+use Rattle.lexer.specs.Names.{index, noted, Known, known, nothing, numbered, after, tok}
+use Rattle.lexer.specs.NameLaws.{Piece, piece, onto, placed, taught, called, In, Distinct, OneTooMany, Few, NameLaw, SameNumber}
 use Rattle.lexer.proofs.Scanning.{by-cond, named, shorter-of, Scans, breaks, stops, goes, scans}
-use Rattle.lexer.proofs.Splitting.{split, limited-onto, next-more}
+use Rattle.lexer.proofs.Splitting.{find-token}
 
 pub same-refl : (w : List ℕ) → same w w ≡ true
 same-refl [] = refl
@@ -187,26 +186,67 @@ number-of : (t : Bool) (ns : List (List ℕ)) (w : List ℕ) → t ≡ true → 
 number-of true ns w h = refl
 number-of false ns w h = absurd (clash h)
 
+too-many : (rs : List Piece) (w : List ℕ) (p : ℕ) (s : Scan) → Few (placed nothing rs) → 64 ≤ numbered (taught nothing rs) w → OneTooMany (onto rs (more (name w) p s)) p
+too-many rs w p s few many =
+    let k = taught nothing rs in
+    let ws = drop 1 (called rs) in let os = gathered [] ws in
+    let t = titled-of (k .titled) (k .names) w many in
+    let i : numbered k w ≡ index (lowered w) os = number-of (k .titled) (k .names) w t ∙ ap (index (lowered w)) (taught-first rs t) in
+    let f = few-first rs few in
+    let j = index-within (lowered w) os in
+    record {
+      before = rs; word = w; rest = s; stands = refl; others = os; count = omega arith; different = gathered-distinct [] ws tt;
+      each = λ z. (gathered-new z [] ws, λ q. ⊎-elim (λ b. absurd b) (λ b. b) (gathered-only z [] ws q)); another = index-absent (lowered w) os (omega arith) }
+
 pub name-law : NameLaw
 name-law bs front rest m p h few many =
-    let x = split front (at (g.name m) p ∷ rest) nothing (limited (scan 0 bs)) h in
-    let rs = x .pieces in let k = taught nothing rs in
-    let y = next-more k (x .rest) (x .then) in
-    let r = y .0 in
-    let l = limited-onto rs (scan 0 bs) (x .rest) (x .is) in
-    let n = limited-onto (piece r p ∷ []) (l .0) (y .1) (l .2 ∙ y .2) in
-    let whole : scan 0 bs ≡ onto rs (more r p (n .0)) = l .1 ∙ ap (onto rs) (n .1) in
-    let v = written-onto rs (more r p (n .0)) (subst Written whole (written-of (scans 0 bs))) in
-    let u = name-of k r m (v .0) (y .3) in
-    let w = u .0 in
-    let t : k .titled ≡ true = titled-of (k .titled) (k .names) w (omega (arith, u .2)) in
-    let os = gathered [] (drop 1 (called rs)) in
-    let i : index (lowered w) os ≡ m = ap (index (lowered w)) (sym (taught-first rs t)) ∙ sym (number-of (k .titled) (k .names) w t) ∙ u .2 in
-    let f = few-first rs (subst Few (sym (x .first)) few) in
-    let j = index-within (lowered w) os in
-    let c : length os ≡ 64 = omega arith in
-    record {
-      before = rs; word = w; rest = n .0; stands = whole ∙ ap (λ a. onto rs (more a p (n .0))) (u .1);
-      others = os; count = c; different = gathered-distinct [] (drop 1 (called rs)) tt;
-      each = λ z. (gathered-new z [] (drop 1 (called rs)), λ q. ⊎-elim (λ b. absurd b) (λ b. b) (gathered-only z [] (drop 1 (called rs)) q));
-      another = index-absent (lowered w) os (omega arith) }
+    let x = find-token front rest (g.name m) p nothing (scan 0 bs) h in
+    let rs = x .before in
+    let v = written-onto rs (more (x .raw) p (x .behind)) (subst Written (x .whole) (written-of (scans 0 bs))) in
+    let u = name-of (taught nothing rs) (x .raw) m (v .0) (x .means) in
+    let e : scan 0 bs ≡ onto rs (more (name (u .0)) p (x .behind)) = x .whole ∙ ap (λ a. onto rs (more a p (x .behind))) (u .1) in
+    subst (λ s. OneTooMany s p) (sym e) (too-many rs (u .0) p (x .behind) (subst Few (sym (x .shown)) few) (omega (arith, u .2)))
+
+-- Names that have the same number
+
+index-before : (x : List ℕ) (xs ys : List (List ℕ)) → index x xs < length xs → index x (xs ++ ys) ≡ index x xs
+index-before x [] ys h = absurd (omega arith)
+index-before x (z ∷ xs) ys h = look (same x z) h (index-before x xs ys)
+  where
+    look : (b : Bool) → cond b 0 (suc (index x xs)) < suc (length xs) → (index x xs < length xs → index x (xs ++ ys) ≡ index x xs) → cond b 0 (suc (index x (xs ++ ys))) ≡ cond b 0 (suc (index x xs))
+    look true k on = refl
+    look false k on = ap suc (on (omega arith))
+
+index-kept : (x w : List ℕ) (xs : List (List ℕ)) → index x xs < length xs → (index x (noted w xs) ≡ index x xs) × (index x (noted w xs) < length (noted w xs))
+index-kept x w xs h =
+    by-cond (λ ys. (index x ys ≡ index x xs) × (index x ys < length ys)) (ltb (index w xs) (length xs)) xs (xs ++ (w ∷ [])) (λ _. (refl, h))
+    (λ _. let e = index-before x xs (w ∷ []) h in let l = length-append xs (w ∷ []) in (e, omega arith))
+
+index-gathered : (x : List ℕ) (ns ws : List (List ℕ)) → index x ns < length ns → (index x (gathered ns ws) ≡ index x ns) × (index x (gathered ns ws) < length (gathered ns ws))
+index-gathered x ns [] h = (refl, h)
+index-gathered x ns (w ∷ ws) h = let k = index-kept x w ns h in let g = index-gathered x (noted w ns) ws (k .1) in (g .0 ∙ k .0, g .1)
+
+index-same : (v w : List ℕ) (xs : List (List ℕ)) → index v xs ≡ index w xs → index v xs < length xs → v ≡ w
+index-same v w [] e h = absurd (omega arith)
+index-same v w (x ∷ xs) e h = look (same v x) (same w x) refl refl e h (index-same v w xs)
+  where
+    look : (a b : Bool) → same v x ≡ a → same w x ≡ b → cond a 0 (suc (index v xs)) ≡ cond b 0 (suc (index w xs)) → cond a 0 (suc (index v xs)) < suc (length xs) → (index v xs ≡ index w xs → index v xs < length xs → v ≡ w) → v ≡ w
+    look true true k l i j on = same-is v x k ∙ sym (same-is w x l)
+    look true false k l i j on = absurd (omega arith)
+    look false true k l i j on = absurd (omega arith)
+    look false false k l i j on = on (omega arith) (omega arith)
+
+same-titled : (ns : List (List ℕ)) (os : List Piece) (v w : List ℕ) → (index (lowered v) ns ≡ numbered (taught (known true (noted (lowered v) ns)) os) w) ↔ (lowered v ≡ lowered w)
+same-titled ns os v w =
+    let ms = noted (lowered v) ns in let ls = gathered ms (called os) in
+    let k = index-gathered (lowered v) ms (called os) (noted-within (lowered v) ns) in
+    let i : index (lowered v) ls ≡ index (lowered v) ns = k .0 ∙ index-noted (lowered v) ns in
+    let j : numbered (taught (known true ms) os) w ≡ index (lowered w) ls = ap (λ u. numbered u w) (taught-titled ms os) in
+    (λ e. index-same (lowered v) (lowered w) ls (i ∙ e ∙ j) (k .1), λ e. sym i ∙ ap (λ u. index u ls) e ∙ sym j)
+
+same-at : (t : Bool) (ns : List (List ℕ)) (os : List Piece) (v w : List ℕ) → t ≡ true → (numbered (known t ns) v ≡ numbered (taught (after (known t ns) v) os) w) ↔ (lowered v ≡ lowered w)
+same-at true ns os v w h = same-titled ns os v w
+same-at false ns os v w h = absurd (clash h)
+
+pub same-number : SameNumber
+same-number front between v w h = same-at (taught nothing front .titled) (taught nothing front .names) between v w h

@@ -1,35 +1,30 @@
 -- Each token but the end takes a byte or more, so the bound in a scan is never met; places and the end of a scan.
 use mathlib.Core.Path.{_≡_, refl, sym, ap, subst, _∙_}
 use mathlib.Core.Logic.{_⊎_, inl, inr, ⊎-elim}
-use mathlib.Core.Bool.{Bool, true, false, cond, _||_, _&&_}
+use mathlib.Core.Bool.{Bool, true, false, cond, _&&_}
 use mathlib.Core.List.{List, [], _∷_, _++_}
-use Prim.Native.Nat.{ℕ, zero, suc, _+_, _-_, _<_, _≤_}
+use Prim.Native.Nat.{ℕ, zero, suc, _+_, _<_, _≤_}
 use native.Mathlib.Omega.{arith}
 use lib.Dec.{leb, eqb}
 use lib.ListN.{length, take, drop, length-drop}
 use borrow.Author.Tests.{clash, leb-false, lt-leb}
 use Rattle.std.specs.declared.option.Option.{Option}
 use Rattle.std.specs.declared.option.Option.the-variants.{Some, None}
-use Rattle.grammar.specs.declared.symbols.Mark.{Mark}
 use Rattle.grammar.specs.declared.symbols.Mark.the-variants.{Program, Var, Semicolon, Comma, Colon, Becomes, Close, Slash, Then, Do, End, Period, Stop}
 use Rattle.grammar.specs.Tokens.{Tok, Item, at, mark}
 use Rattle.grammar.specs.Tokens as g
-use Rattle.grammar.specs.Limits.{Ending, Ends, isStop as isStopTok}
+use Rattle.grammar.specs.Limits.{Ends, isStop as isStopTok}
 use Rattle.grammar.specs.Limits.{bad}
 use Rattle.grammar.specs.Limits as limits
 use Rattle.lexer.specs.Spelling.{letter, digit, alphanumeric, blank, lowered, same, run, value}
 use Rattle.lexer.specs.Words.{Word, reserved, find, symbol}
 use Rattle.lexer.specs.Lexemes.{Raw, name, number, other, Gap, gap, unclosed, Mode, outside, inside, skipIn, skip, Lexed, lexeme, none, symbolOr, symbolAt, wordOr, keyword, wordAt, touched, numberAt, tokenAt, lexFrom, lex}
-use Rattle.lexer.specs.Scan.{Scan, more, broken, over, isStop, follow, onward, scanBy, scan, size, limit, keeps, limited, Moderate, Fails, noToken, longName, largeNumber, later}
+use Rattle.lexer.specs.Scan.{Scan, more, broken, over, isStop, onward, scanBy, scan, size, limit, keeps, limited, Moderate, Fails, noToken, longName, largeNumber, later}
 use Rattle.lexer.specs.Names.{Known, tok, learns, items, ends}
 
 pub by-cond : {X : Type 0} (P : X → Type 0) (b : Bool) (x y : X) → (b ≡ true → P x) → (b ≡ false → P y) → P (cond b x y)
 by-cond P true x y f g = f refl
 by-cond P false x y f g = g refl
-
-pub decide : (b : Bool) → (b ≡ true) ⊎ (b ≡ false)
-decide true = inl refl
-decide false = inr refl
 
 -- Blanks and comments: e is the place after the last byte
 
@@ -281,10 +276,13 @@ places p bs = places-of (p + length bs) refl (scans p bs)
 pub over-bad : {n q : ℕ} → limits.over ≡ bad n q → ⊥
 over-bad h = let z : _≡_ {A = ℕ} 0 1 = cc in absurd (omega arith)
 
-pub bad-place : (p e : ℕ) (s : Scan) {n q : ℕ} → Places p e s → ends s ≡ bad n q → (n ≡ 2) × (p ≤ q) × (q < e)
+bad-place : (p e : ℕ) (s : Scan) {n q : ℕ} → Places p e s → ends s ≡ bad n q → (n ≡ 2) × (p ≤ q) × (q < e)
 bad-place p e (more r o s) h k = let t = bad-place (suc o) e s (h .2) k in (t .0, omega arith, t .2)
 bad-place p e (broken m o) {n} {q} h k = let x : m ≡ n = cc in let y : o ≡ q = cc in (sym x ∙ h .0, omega arith, omega arith)
 bad-place p e over h k = absurd (over-bad k)
+
+pub two-only-scan : (p : ℕ) (bs : List ℕ) {n q : ℕ} → ends (scan p bs) ≡ bad n q → (n ≡ 2) × (p ≤ q) × (q < p + length bs)
+two-only-scan p bs h = bad-place p (p + length bs) (scan p bs) (places p bs) h
 
 -- the end of the text
 
@@ -413,3 +411,9 @@ fails-place p e h noToken = (h .1, omega arith)
 fails-place p e h (longName k) = (h .0, h .1)
 fails-place p e h (largeNumber k) = (h .0, h .1)
 fails-place p e h (later {q} k f) = let t = fails-place (suc q) e (h .2) f in (omega arith, t .1)
+
+pub fails-which : (p e : ℕ) {s : Scan} {n q : ℕ} → Places p e s → Fails s n q → (2 ≤ n) × (n ≤ 4)
+fails-which p e h noToken = let k = h .0 in (omega arith, omega arith)
+fails-which p e h (longName k) = (omega arith, omega arith)
+fails-which p e h (largeNumber k) = (omega arith, omega arith)
+fails-which p e h (later {q} k f) = fails-which (suc q) e (h .2) f

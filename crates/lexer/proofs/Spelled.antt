@@ -1,13 +1,10 @@
 -- Every front of a text can be completed in bytes as it can in tokens.
 use mathlib.Core.Path.{_≡_, refl, sym, ap, ap₂, subst, _∙_}
-use mathlib.Core.Logic.{_⊎_, inl, inr, ⊎-elim}
-use mathlib.Core.Bool.{Bool, true, false, cond}
-use mathlib.Core.List.{List, [], _∷_, _++_, append-nil, append-assoc}
+use mathlib.Core.Bool.{Bool, true, false}
+use mathlib.Core.List.{List, [], _∷_, _++_, append-nil}
 use Prim.Native.Nat.{ℕ, zero, suc, _+_, _<_, _≤_}
-use native.Mathlib.Omega.{arith}
 use lib.Chars.{codes}
-use lib.IntN.{pos}
-use lib.ListN.{length, take}
+use lib.ListN.{length}
 use borrow.Author.Tests.{clash}
 use Rattle.tosca.specs.declared.operators.SimpleType.the-variants.{Integer, Boolean}
 use Rattle.tosca.specs.declared.operators.Value.the-variants.{Number, Truth}
@@ -19,14 +16,15 @@ use Rattle.grammar.specs.Tokens as g
 use Rattle.grammar.specs.Limits.{Simple, AllSimple, placedFrom, bad, isStop as isStopTok}
 use Rattle.grammar.specs.Limits as limits
 use Rattle.lexer.specs.Spelling.{lowered}
-use Rattle.lexer.specs.Lexemes.{Raw, name, number, other, Lexed, lexeme, none, lex}
+use Rattle.lexer.specs.Lexemes.{Raw, name, number, other, lexeme, lex}
 use Rattle.lexer.specs.Scan.{Scan, more, broken, over, isStop, scan, limit, keeps, limited}
-use Rattle.lexer.specs.Names.{index, noted, Known, known, nothing, numbered, after, tok, learns, items, ends}
+use Rattle.lexer.specs.Names.{index, Known, known, nothing, numbered, after, tok, learns, items, ends}
 use Rattle.lexer.specs.NameLaws.{Piece, piece, onto, placed, taught}
+use Rattle.lexer.specs.Completion.{Completed}
 use Rattle.lexer.proofs.Scanning.{tok-stops}
 use Rattle.lexer.proofs.Numbering.{index-noted}
 use Rattle.lexer.proofs.Cutting.{Cut, Starts, cut-before, cut-after, scan-step, scan-same}
-use Rattle.lexer.proofs.Splitting.{items-onto, ends-onto, placed-end, split, limited-onto, next-more, next-broken}
+use Rattle.lexer.proofs.Splitting.{items-onto, ends-onto, placed-end, split, limited-onto, next-broken, find-token}
 
 -- how a simple token is spelled
 abbrev pub spelling : Tok → List ℕ
@@ -187,11 +185,6 @@ ends-spelled : (us : List Tok) (n q : ℕ) → AllSimple n us → ends (scan q (
 ends-spelled [] n q a = refl
 ends-spelled (t ∷ us) n q a = ap ends (scan-spelled n q t (spelled us) (a .0)) ∙ ends-spelled us n (q + length (spelling t) + 1) (a .1)
 
--- the bytes up to c can be completed by simple tokens
-abbrev pub Completed : List ℕ → ℕ → List Item → ((n : ℕ) → (us : List Tok) × AllSimple n us) → Type 0
-Completed bs c front give =
-    (n : ℕ) × (cs : List ℕ) × (f : ℕ → ℕ) × (items nothing (scan 0 (take c bs ++ cs)) ≡ front ++ placedFrom f 0 (give n .0 ++ (mark Stop ∷ []))) × (ends (scan 0 (take c bs ++ cs)) ≡ limits.over)
-
 pub completed-cut : (bs : List ℕ) (rs : List Piece) (c : ℕ) → Cut bs rs c → (give : (n : ℕ) → (us : List Tok) × AllSimple n us) → Completed bs c (placed nothing rs) give
 completed-cut bs rs c cut give =
     let k = taught nothing rs in
@@ -201,6 +194,13 @@ completed-cut bs rs c cut give =
     (n, cs, spots (c + 1) us,
      ap (items nothing) (cut (spelled us)) ∙ items-onto nothing rs (scan (c + 1) (spelled us)) ∙ ap (λ xs. placed nothing rs ++ xs) (items-spelled us n (c + 1) k (ready-taught nothing rs (λ _. refl)) refl (give n .1)),
      ap ends (cut (spelled us)) ∙ ends-onto rs (scan (c + 1) (spelled us)) ∙ ends-spelled us n (c + 1) (give n .1))
+
+-- a text can be completed before any token
+pub completed : (bs : List ℕ) (front rest : List Item) (t : Tok) (p : ℕ) → items nothing (limited (scan 0 bs)) ≡ front ++ (at t p ∷ rest) → (give : (n : ℕ) → (us : List Tok) × AllSimple n us) → Completed bs p front give
+completed bs front rest t p h give =
+    let x = find-token front rest t p nothing (scan 0 bs) h in
+    let c = cut-before bs (x .before) p (more (x .raw) p (x .behind)) (x .whole) refl in
+    subst (λ f. Completed bs p f give) (x .shown) (completed-cut bs (x .before) p c give)
 
 starts-keeps : (p n q : ℕ) (r : Raw) (s t : Scan) → Starts p (keeps n q (more r q s)) → Starts p (more r q t)
 starts-keeps p zero q r s t h = h
@@ -217,14 +217,6 @@ cut-limited bs rs p s e h =
     let l = limited-onto rs (scan 0 bs) s e in
     cut-before bs rs p (l .0) (l .1) (starts-limited p (l .0) (subst (Starts p) (sym (l .2)) h))
 
--- a text can be completed before any token
-pub completed : (bs : List ℕ) (front rest : List Item) (t : Tok) (p : ℕ) → items nothing (limited (scan 0 bs)) ≡ front ++ (at t p ∷ rest) → (give : (n : ℕ) → (us : List Tok) × AllSimple n us) → Completed bs p front give
-completed bs front rest t p h give =
-    let x = split front (at t p ∷ rest) nothing (limited (scan 0 bs)) h in
-    let y = next-more (taught nothing (x .pieces)) (x .rest) (x .then) in
-    let c = cut-limited bs (x .pieces) p (x .rest) (x .is) (subst (Starts p) (sym (y .2)) refl) in
-    subst (λ f. Completed bs p f give) (x .first) (completed-cut bs (x .pieces) p c give)
-
 -- before bytes that are refused
 pub completed-end : (bs : List ℕ) (front : List Item) (m p : ℕ) → items nothing (limited (scan 0 bs)) ≡ front → ends (limited (scan 0 bs)) ≡ bad m p → (give : (n : ℕ) → (us : List Tok) × AllSimple n us) → Completed bs p front give
 completed-end bs front m p h e give =
@@ -236,12 +228,8 @@ completed-end bs front m p h e give =
 -- and after any token but the end
 pub completed-after : (bs : List ℕ) (front rest : List Item) (t : Tok) (p : ℕ) → items nothing (limited (scan 0 bs)) ≡ front ++ (at t p ∷ rest) → isStopTok t ≡ false → (give : (n : ℕ) → (us : List Tok) × AllSimple n us) → (a : ℕ) × (p < a) × (a ≤ length bs) × Completed bs a (front ++ (at t p ∷ [])) give
 completed-after bs front rest t p h go give =
-    let x = split front (at t p ∷ rest) nothing (limited (scan 0 bs)) h in
-    let k = taught nothing (x .pieces) in
-    let y = next-more k (x .rest) (x .then) in
-    let r = y .0 in
-    let l = limited-onto (x .pieces) (scan 0 bs) (x .rest) (x .is) in
-    let m = limited-onto (piece r p ∷ []) (l .0) (y .1) (l .2 ∙ y .2) in
-    let c = cut-after bs (x .pieces) r p (m .0) (l .1 ∙ ap (onto (x .pieces)) (m .1)) (sym (tok-stops k r) ∙ ap isStopTok (y .3) ∙ go) in
-    let f : placed nothing (x .pieces ++ (piece r p ∷ [])) ≡ front ++ (at t p ∷ []) = placed-end nothing (x .pieces) r p ∙ ap₂ (λ xs u. xs ++ (at u p ∷ [])) (x .first) (y .3) in
-    (c .0, c .1, c .2, subst (λ z. Completed bs (c .0) z give) f (completed-cut bs (x .pieces ++ (piece r p ∷ [])) (c .0) (c .3) give))
+    let x = find-token front rest t p nothing (scan 0 bs) h in
+    let rs = x .before in let r = x .raw in let k = taught nothing rs in
+    let c = cut-after bs rs r p (x .behind) (x .whole) (sym (tok-stops k r) ∙ ap isStopTok (x .means) ∙ go) in
+    let f : placed nothing (rs ++ (piece r p ∷ [])) ≡ front ++ (at t p ∷ []) = placed-end nothing rs r p ∙ ap₂ (λ xs u. xs ++ (at u p ∷ [])) (x .shown) (x .means) in
+    (c .0, c .1, c .2, subst (λ z. Completed bs (c .0) z give) f (completed-cut bs (rs ++ (piece r p ∷ [])) (c .0) (c .3) give))

@@ -1,16 +1,16 @@
 -- Where the tokens of a scan are split, the scan is.
-use mathlib.Core.Path.{_≡_, refl, sym, ap, ap₂, subst, _∙_}
+use mathlib.Core.Path.{_≡_, refl, ap, ap₂, subst, _∙_}
 use mathlib.Core.List.{List, [], _∷_, _++_, nil≢cons, cons≢nil, head-eq-of-cons-eq, tail-eq-of-cons-eq}
-use Prim.Native.Nat.{ℕ, zero, suc}
+use Prim.Native.Nat.{ℕ, zero, suc, _+_, _≤_}
+use lib.ListN.{length}
 use native.Mathlib.Omega.{arith}
 use Rattle.grammar.specs.Tokens.{Tok, Item, at}
 use Rattle.grammar.specs.Limits.{bad}
-use Rattle.grammar.specs.Limits as limits
 use Rattle.lexer.specs.Lexemes.{Raw}
-use Rattle.lexer.specs.Scan.{Scan, more, broken, over, limit, keeps, limited}
+use Rattle.lexer.specs.Scan.{Scan, more, broken, over, scan, limit, keeps, limited}
 use Rattle.lexer.specs.Names.{Known, tok, learns, items, ends}
 use Rattle.lexer.specs.NameLaws.{Piece, piece, onto, placed, taught}
-use Rattle.lexer.proofs.Scanning.{over-bad}
+use Rattle.lexer.proofs.Scanning.{over-bad, Places, places}
 
 pub items-onto : (k : Known) (rs : List Piece) (s : Scan) → items k (onto rs s) ≡ placed k rs ++ items (taught k rs) s
 items-onto k [] s = refl
@@ -67,3 +67,31 @@ pub next-broken : (k : Known) (s : Scan) {n p : ℕ} → items k s ≡ [] → en
 next-broken k (more r q s) h e = absurd (cons≢nil h)
 next-broken k (broken m q) {n} {p} h e = let x : m ≡ n = cc in let y : q ≡ p = cc in ap₂ broken x y
 next-broken k over h e = absurd (over-bad e)
+
+places-onto : (p e : ℕ) (rs : List Piece) (r : Raw) (q : ℕ) (s : Scan) → Places p e (onto rs (more r q s)) → q ≤ e
+places-onto p e [] r q s h = h .1
+places-onto p e (piece o b ∷ rs) r q s h = places-onto (suc b) e rs r q s (h .2)
+
+-- a token and what is before it, in the scan without limits
+pub record Found (k : Known) (s : Scan) (front : List Item) (t : Tok) (p : ℕ) : Type 0 where
+  pub before : List Piece
+  pub raw : Raw
+  pub behind : Scan
+  pub whole : s ≡ onto before (more raw p behind)
+  pub shown : placed k before ≡ front
+  pub means : tok (taught k before) raw ≡ t
+
+pub find-token : (front rest : List Item) (t : Tok) (p : ℕ) (k : Known) (s : Scan) → items k (limited s) ≡ front ++ (at t p ∷ rest) → Found k s front t p
+find-token front rest t p k s h =
+    let x = split front (at t p ∷ rest) k (limited s) h in
+    let y = next-more (taught k (x .pieces)) (x .rest) (x .then) in
+    let l = limited-onto (x .pieces) s (x .rest) (x .is) in
+    let m = limited-onto (piece (y .0) p ∷ []) (l .0) (y .1) (l .2 ∙ y .2) in
+    record { before = x .pieces; raw = y .0; behind = m .0; whole = l .1 ∙ ap (onto (x .pieces)) (m .1); shown = x .first; means = y .3 }
+
+-- no token stands past the last byte
+pub token-place : (bs : List ℕ) (front rest : List Item) (t : Tok) (p : ℕ) (k : Known) → items k (limited (scan 0 bs)) ≡ front ++ (at t p ∷ rest) → p ≤ length bs
+token-place bs front rest t p k h =
+    let x = find-token front rest t p k (scan 0 bs) h in
+    let e = places-onto 0 (0 + length bs) (x .before) (x .raw) p (x .behind) (subst (Places 0 (0 + length bs)) (x .whole) (places 0 bs)) in
+    omega arith

@@ -4,3 +4,4 @@ pub mod Lexemes
 pub mod Scan
 pub mod Names
 pub mod NameLaws
+pub mod Completion

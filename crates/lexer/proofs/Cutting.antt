@@ -26,10 +26,13 @@ by-cond₂ P false x y u v f g = g refl
 -- parts of an equation of lexemes
 raw-of : {r s : Raw} {q o a b : ℕ} {cs ds : List ℕ} → lexeme r q a cs ≡ lexeme s o b ds → r ≡ s
 raw-of {r} {s} h = cc
+
 place-of : {r s : Raw} {q o a b : ℕ} {cs ds : List ℕ} → lexeme r q a cs ≡ lexeme s o b ds → q ≡ o
 place-of {q} {o} h = cc
+
 after-of : {r s : Raw} {q o a b : ℕ} {cs ds : List ℕ} → lexeme r q a cs ≡ lexeme s o b ds → a ≡ b
 after-of {a} {b} h = cc
+
 rest-of : {r s : Raw} {q o a b : ℕ} {cs ds : List ℕ} → lexeme r q a cs ≡ lexeme s o b ds → cs ≡ ds
 rest-of {cs} {ds} h = cc
 

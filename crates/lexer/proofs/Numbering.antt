@@ -195,8 +195,16 @@ too-many rs w p s few many =
     let f = few-first rs few in
     let j = index-within (lowered w) os in
     record {
-      before = rs; word = w; rest = s; stands = refl; others = os; count = omega arith; different = gathered-distinct [] ws tt;
-      each = λ z. (gathered-new z [] ws, λ q. ⊎-elim (λ b. absurd b) (λ b. b) (gathered-only z [] ws q)); another = index-absent (lowered w) os (omega arith) }
+      before = rs;
+      word = w;
+      rest = s;
+      stands = refl;
+      others = os;
+      count = omega arith;
+      different = gathered-distinct [] ws tt;
+      each = λ z. (gathered-new z [] ws, λ q. ⊎-elim (λ b. absurd b) (λ b. b) (gathered-only z [] ws q));
+      another = index-absent (lowered w) os (omega arith);
+    }
 
 pub name-law : NameLaw
 name-law bs front rest m p h few many =

@@ -190,10 +190,13 @@ completed-cut bs rs c cut give =
     let k = taught nothing rs in
     let n = numbered k (codes "x") in
     let us = give n .0 in
-    let cs = 32 ∷ spelled us in
-    (n, cs, spots (c + 1) us,
-     ap (items nothing) (cut (spelled us)) ∙ items-onto nothing rs (scan (c + 1) (spelled us)) ∙ ap (λ xs. placed nothing rs ++ xs) (items-spelled us n (c + 1) k (ready-taught nothing rs (λ _. refl)) refl (give n .1)),
-     ap ends (cut (spelled us)) ∙ ends-onto rs (scan (c + 1) (spelled us)) ∙ ends-spelled us n (c + 1) (give n .1))
+    let cs = 32 ∷ spelled us in (
+      n,
+      cs,
+      spots (c + 1) us,
+      ap (items nothing) (cut (spelled us)) ∙ items-onto nothing rs (scan (c + 1) (spelled us)) ∙ ap (λ xs. placed nothing rs ++ xs) (items-spelled us n (c + 1) k (ready-taught nothing rs (λ _. refl)) refl (give n .1)),
+      ap ends (cut (spelled us)) ∙ ends-onto rs (scan (c + 1) (spelled us)) ∙ ends-spelled us n (c + 1) (give n .1),
+    )
 
 -- a text can be completed before any token
 pub completed : (bs : List ℕ) (front rest : List Item) (t : Tok) (p : ℕ) → items nothing (limited (scan 0 bs)) ≡ front ++ (at t p ∷ rest) → (give : (n : ℕ) → (us : List Tok) × AllSimple n us) → Completed bs p front give

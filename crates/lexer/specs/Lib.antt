@@ -6,3 +6,5 @@ pub mod Scan
 pub mod Names
 pub mod Found
 pub mod Limited
+pub mod NameLaws
+pub mod Completion

@@ -9,7 +9,7 @@ use Rattle.grammar.specs.Tokens.{Tok, Item, at}
 use Rattle.grammar.specs.Limits.{Ending}
 use Rattle.lexer.specs.Spelling.{lowered}
 use Rattle.lexer.specs.Lexemes.{Raw, meant}
-use Rattle.lexer.specs.Scan.{Scan, follow, scan, limited}
+use Rattle.lexer.specs.Scan.{Scan, follow, scan, limit, limited}
 use Rattle.lexer.specs.Names.{Known, known, tok, items, ends}
 use Rattle.reader.specs.declared.names.Names.{Names}
 use Rattle.reader.specs.declared.parser.Parser.{Parser}
@@ -47,9 +47,10 @@ next p = tok (knownOf (p .names)) (meant (p .token))
 abbrev pub unread : Parser → ℕ
 unread p = length (ahead p .tokens)
 
--- places stay small, at most 64 names are known, and a node or two for each unread token can be counted
+-- places stay small, at most 64 names are known, the next token has kept the limits of its length, and a node or two for each unread token can be counted
 pub record Ready (p : Parser) : Type 0 where
   pub near : p .place ≤ 16384
   pub within : p .after + length (p .rest .now) ≤ 16384
   pub few : p .names .count ≤ 64
+  pub kept : limit (meant (p .token)) ≡ 0
   pub room : p .count + 2 * unread p ≤ 40000

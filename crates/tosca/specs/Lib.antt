@@ -3,3 +3,4 @@ pub mod Trees
 pub mod Table
 pub mod Decode
 pub mod Opens
+pub mod Text

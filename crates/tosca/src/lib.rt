@@ -1,4 +1,5 @@
 // The rules of Tosca that every layer shares: operators and their arithmetic, and the node table's format.
-pub mod operators;
 pub mod arithmetic;
+pub mod display;
+pub mod operators;
 pub mod table;

@@ -46,9 +46,6 @@ pub enum Node {
     Program(u16),
 }
 
-<<<<<<< HEAD
-pub const BLANK: Entry = Entry { kind: 0, op: 0, typ: 0, name: 0, value: 0, first: 0, second: 0, third: 0, place: 0 };
-=======
 // An entry that is no node.
 pub const BLANK: Entry = Entry {
     kind: 0,
@@ -277,4 +274,3 @@ impl Entry {
         }
     }
 }
->>>>>>> tosca

@@ -1,0 +1,4 @@
+use Rattle.reader.proofs.parser.Parser.advance.Needs as need
+
+pub returns : need.returns
+returns c = ?

@@ -1,4 +1,6 @@
 // Tokens as parts of the text, and why a text is refused.
+ghost use mathlib.Core.Path.{_≡_};
+ghost use Rattle.lexer.specs.Lexemes.{number-of};
 use grammar::symbols::Mark;
 use grammar::symbols::Operator;
 use grammar::symbols::Prefix;
@@ -41,6 +43,23 @@ pub enum Question {
     Depth,
     NameCount,
     NodeCount,
+}
+
+impl Question {
+    pub fn number(self) -> u8
+        ensures { λ r. ⌜ r ≡ number-of self ⌝ }
+    {
+        match self {
+            Question::TextLength => 1,
+            Question::Token => 2,
+            Question::NameLength => 3,
+            Question::NumberSize => 4,
+            Question::Grammar => 5,
+            Question::Depth => 6,
+            Question::NameCount => 7,
+            Question::NodeCount => 8,
+        }
+    }
 }
 
 // The first question with a no, and the place of it.

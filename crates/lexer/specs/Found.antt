@@ -1,0 +1,36 @@
+-- What the program's functions find: perhaps a token, perhaps the end of a gap.
+use mathlib.Core.List.{List}
+use mathlib.Core.Path.{_≡_}
+use Prim.Native.Nat.{ℕ, _+_, _≤_}
+use lib.ListN.{length}
+use Rattle.std.specs.declared.option.Option.{Option}
+use Rattle.std.specs.declared.option.Option.the-variants.{Some, None}
+use Rattle.std.specs.declared.result.Result.{Result}
+use Rattle.std.specs.declared.result.Result.the-variants.{Ok, Err}
+use Rattle.grammar.specs.Tokens.{Tok}
+use Rattle.lexer.specs.declared.token.Token.{Token}
+use Rattle.lexer.specs.declared.token.Refusal.{Refusal}
+use Rattle.lexer.specs.declared.lexing.Cursor.{Cursor}
+use Rattle.lexer.specs.Lexemes.{Raw, other, meant, Gap, gap, unclosed, inside, skipIn, skip, number-of}
+
+abbrev pub meantSome : Option Token → Option Raw
+meantSome (Some t) = Some (meant t)
+meantSome None = None
+
+abbrev pub others : Option Tok → Option Raw
+others (Some t) = Some (other t)
+others None = None
+
+abbrev pub gapMeant : Result Cursor Refusal → Gap
+gapMeant (Ok c) = gap (c .place) (c .rest .now)
+gapMeant (Err e) = unclosed (e .place)
+
+-- a refusal has this number
+abbrev pub Refuses : ℕ → Result Cursor Refusal → Type 0
+Refuses n (Ok c) = Unit {0}
+Refuses n (Err e) = number-of (e .question) ≡ n
+
+-- the comment that p and bs are inside of ends, and skipping goes on after it; or it never ends
+abbrev pub Closes : ℕ → List ℕ → Option Cursor → Type 0
+Closes p bs (Some c) = ((o : ℕ) → skipIn (inside o) p bs ≡ skip (c .place) (c .rest .now)) × (c .place + length (c .rest .now) ≤ p + length bs) × (length (c .rest .now) ≤ length bs)
+Closes p bs None = (o : ℕ) → skipIn (inside o) p bs ≡ unclosed o

@@ -1,3 +1,5 @@
 pub mod Steps
 pub mod Symbols
 pub mod Reserving
+pub mod Scanning
+pub mod Numbering

@@ -6,3 +6,4 @@ pub mod Scan
 pub mod Names
 pub mod Found
 pub mod Limited
+pub mod NameLaws

@@ -1,1 +1,3 @@
 pub mod NameList
+pub mod StepScan
+pub mod StepToken

@@ -1,12 +1,10 @@
 -- The names of a text as a list of words: where a word stands, and the list with one more.
 use mathlib.Core.Path.{_≡_, refl, sym, ap, _∙_}
-use mathlib.Core.Logic.{_⊎_, ⊎-elim}
-use mathlib.Core.Bool.{Bool, true, false, cond}
+use mathlib.Core.Bool.{true, false}
 use mathlib.Core.List.{List, [], _∷_, _++_}
-use Prim.Native.Nat.{ℕ, zero, suc, _+_, _<_, _≤_}
+use Prim.Native.Nat.{ℕ, zero, suc, _+_, _<_, _≤_, min}
 use native.Mathlib.Omega.{arith}
 use denote.Ref.{RefT}
-use lib.Dec.{ltb}
 use lib.ListN.{length, getD, set, take, drop}
 use borrow.Author.Tests.{lt-ltb, le-ltb}
 use Rattle.std.specs.declared.option.Option.the-variants.{Some, None}
@@ -14,9 +12,9 @@ use Rattle.std.specs.shelf.Maps.{nth}
 use Rattle.std.proofs.shelf.Maps.{nth-getD, nth-past}
 use Rattle.std.proofs.shelf.Lists.{getD-take, length-take, length-take-le, drop-more, drop-all, take-more-set}
 use Rattle.lexer.specs.Spelling.{lowered, same}
-use Rattle.lexer.specs.Names.{index, noted, known, numbered, after}
+use Rattle.lexer.specs.Names.{index, noted, known}
 use Rattle.reader.specs.declared.names.Names.{Names}
-use Rattle.reader.specs.Feeds.{spellings, knownOf}
+use Rattle.reader.specs.Feeds.{spellings}
 use Rattle.reader.specs.Numbering.{Numbered}
 
 pub length-spellings : (ws : List (RefT (List ℕ))) → length (spellings ws) ≡ length ws
@@ -79,9 +77,6 @@ front-more : (ws : List (RefT (List ℕ))) (c : ℕ) (w : RefT (List ℕ)) → c
 front-more ws c w h = let e = length-spellings ws in ap (take (c + 1)) (set-spellings ws c w) ∙ take-more-set (spellings ws) c (lowered (w .now)) (omega arith)
 
 -- the number of a name, and what is known after it
-pub is-title : (m : Names) (w : List ℕ) → m .titled ≡ false → m .count ≤ 64 → Numbered m w (record { words = m .words; count = m .count; titled = true }) (Some 0)
-is-title m w t h = rw t (refl, omega arith, refl, h)
-
 pub is-old : (m : Names) (w : List ℕ) (i : ℕ) → m .titled ≡ true → m .count ≤ 64 → m .count ≤ length (m .words) → i ≡ index (lowered w) (front (m .words) (m .count)) → i < m .count → Numbered m w m (Some i)
 is-old m w i t h k e lt =
     let n = length-front (m .words) (m .count) k in
@@ -93,9 +88,6 @@ is-new m w i t k e at lt =
     let is : front (set (m .words) i w) (i + 1) ≡ noted (lowered (w .now)) (front (m .words) (m .count)) = rw at (front-more (m .words) (m .count) w (omega arith) ∙ sym (noted-new (lowered (w .now)) (front (m .words) (m .count)) (omega arith))) in
     rw t (e, lt, ap (known true) is, omega arith)
 
-pub is-over : (m : Names) (w : List ℕ) (i : ℕ) → m .titled ≡ true → i ≡ index (lowered w) (front (m .words) (m .count)) → 64 ≤ i → Numbered m w m None
-is-over m w i t e h = rw t (omega arith, refl)
-
 -- the name of a number
 pub nth-front : (ws : List (RefT (List ℕ))) (c i : ℕ) (d : RefT (List ℕ)) → i < c → i < length ws → Some (lowered (getD ws i d .now)) ≡ nth (front ws c) i
 nth-front ws c i d h k =
@@ -103,8 +95,8 @@ nth-front ws c i d h k =
     let l = length-take c (spellings ws) in
     sym (nth-getD (front ws c) i [] (omega arith) ∙ ap (λ x. Some x) (getD-front ws c i d h k))
 
-pub nth-behind : (ws : List (RefT (List ℕ))) (c i : ℕ) → (length ws ≤ i) ⊎ (c ≤ i) → None ≡ nth (front ws c) i
+pub nth-behind : (ws : List (RefT (List ℕ))) (c i : ℕ) → min c (length ws) ≤ i → None ≡ nth (front ws c) i
 nth-behind ws c i h =
     let e = length-spellings ws in
     let l = length-take c (spellings ws) in
-    sym (nth-past (front ws c) i (⊎-elim (λ k. omega arith) (λ k. omega arith) h))
+    sym (nth-past (front ws c) i (omega arith))

@@ -7,19 +7,12 @@ use Rattle.std.specs.declared.result.Result.{Result}
 use Rattle.std.specs.declared.result.Result.the-variants.{Ok, Err}
 use Rattle.lexer.specs.declared.token.Refusal.{Refusal}
 use Rattle.lexer.specs.Lexemes.{meant, number-of}
-use Rattle.lexer.specs.Scan.{Scan, scan, limit, limited}
+use Rattle.lexer.specs.Scan.{scan, limit, limited}
 use Rattle.lexer.specs.Scan as s
 use Rattle.lexer.specs.Names.{nothing}
 use Rattle.reader.specs.declared.parser.Parser.{Parser}
 use Rattle.reader.specs.Feeds.{feed, knownOf, written, ahead, Ready}
 use Rattle.reader.specs.Advancing.{broken}
-
--- the next token of q is the first of the bytes bs, which begin at place a
-pub record First (a : ℕ) (bs : List ℕ) (q : Parser) : Type 0 where
-  pub tokens : limited (scan a bs) ≡ written q
-  pub near : q .place ≤ a + length bs
-  pub within : q .after + length (q .rest .now) ≤ a + length bs
-  pub kept : limit (meant (q .token)) ≡ 0
 
 -- the token after the next one of p is the next of q
 pub record Fetched (p q : Parser) : Type 0 where

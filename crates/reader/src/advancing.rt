@@ -49,7 +49,10 @@ impl<'a> Parser<'a> {
     pub fn refuse(&self, question: Question) -> Refusal
         ensures { λ r. ⌜ r ≡ refuses question (now (self .entry) .place) ⌝ }
     {
-        Refusal { question, place: self.place }
+        Refusal {
+            question,
+            place: self.place,
+        }
     }
 
     // Reads the token after the next one in its place; names and nodes stay as they are.

@@ -1,4 +1,4 @@
 // The reader: from a text to its node table.
+pub mod advancing;
 pub mod names;
 pub mod parser;
-pub mod advancing;

@@ -1,6 +1,6 @@
 // The names of a text after the program's, in the order of their numbers.
 ghost use mathlib.Core.Path.{_≡_};
-ghost use Prim.Native.Nat.{ℕ, _<_, _≤_};
+ghost use Prim.Native.Nat.{_≤_};
 ghost use Rattle.std.specs.shelf.Maps.{nth};
 ghost use Rattle.lexer.specs.Spelling.{lowered};
 ghost use Rattle.lexer.specs.Names.{index, nothing};
@@ -23,7 +23,11 @@ impl<'a> Names<'a> {
     pub fn new() -> Names<'a>
         ensures { λ r. ⌜ knownOf r ≡ nothing ⌝ ∗ ⌜ r .count ≡ 0 ⌝ }
     {
-        Names { words: [b""; 64], count: 0, titled: false }
+        Names {
+            words: [b""; 64],
+            count: 0,
+            titled: false,
+        }
     }
 
     // Where the word stands first, or the count of names.

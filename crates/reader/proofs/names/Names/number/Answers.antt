@@ -15,6 +15,6 @@ returns c =
     let long : length (m .words) ≡ 64 = omega arith in
     let below : i < 64 = omega arith in
     elim (c .if-n-self .came) [
-      then-n-self w ↦ subst (λ x. Numbered m (c .args .word .now) x (Some i)) (sym (w .self-is)) (is-new m (c .args .word) i (c .if-not-self .left) long (c .position-n .ensures .0) (w .if-n-self .taken) below)
-    | else-n-self w ↦ subst (λ x. Numbered m (c .args .word .now) x (Some i)) (sym (w .self-is)) (is-old m (c .args .word .now) i (c .if-not-self .left) (c .pre) (omega arith) (c .position-n .ensures .0) (omega arith))
+      | then-n-self w ↦ subst (λ x. Numbered m (c .args .word .now) x (Some i)) (sym (w .self-is)) (is-new m (c .args .word) i (c .if-not-self .left) long (c .position-n .ensures .0) (w .if-n-self .taken) below)
+      | else-n-self w ↦ subst (λ x. Numbered m (c .args .word .now) x (Some i)) (sym (w .self-is)) (is-old m (c .args .word .now) i (c .if-not-self .left) (c .pre) (omega arith) (c .position-n .ensures .0) (omega arith))
     ]

@@ -13,8 +13,8 @@ returns c = record {
   same = refl;
   ready = counted (c .args .self .now) (c .args .self .now .count + 1);
   wrote =
-    elim (c .if-number-table .came) [
-      then-number-table w ↦ w .table-is ∙ ap (set (c .args .table .now) (c .args .self .now .count)) (w .new .ensures)
-    | else-number-table w ↦ w .table-is ∙ sym (set-past (c .args .table .now) (c .args .self .now .count) _ (w .if-number-table .left))
-    ];
+      elim (c .if-number-table .came) [
+        | then-number-table w ↦ w .table-is ∙ ap (set (c .args .table .now) (c .args .self .now .count)) (w .new .ensures)
+        | else-number-table w ↦ w .table-is ∙ sym (set-past (c .args .table .now) (c .args .self .now .count) _ (w .if-number-table .left))
+      ];
 }

@@ -6,8 +6,11 @@ ghost use lib.ListN.{length};
 ghost use Rattle.grammar.specs.Tokens.{same, asMul, asAdd, asRel};
 ghost use Rattle.grammar.specs.declared.symbols.Mark.the-variants.{Stop};
 ghost use Rattle.lexer.specs.Lexemes.{meant, lexMeant};
+ghost use Rattle.lexer.specs.Scan.{isStop};
 ghost use Rattle.reader.specs.Feeds.{ahead, next, unread, Ready};
 ghost use Rattle.reader.specs.Advancing.{isMark, isName, plain, seen, refuses, Advanced, Expected, Named, Listed, Deepened};
+ghost use Rattle.reader.specs.Fetching.{Fetches, Begun};
+use crate::names::Names;
 use crate::parser::Parser;
 use grammar::symbols::Adding;
 use grammar::symbols::Mark;
@@ -15,6 +18,7 @@ use grammar::symbols::MarkPartialEq;
 use grammar::symbols::Multiplying;
 use grammar::symbols::Operator;
 use grammar::symbols::Relation;
+use lexer::lexing::next_limited;
 use lexer::token::Question;
 use lexer::token::Refusal;
 use lexer::token::Token;
@@ -25,11 +29,43 @@ use tosca::table::Node;
 pub const MAX_DEPTH: usize = 32;
 
 impl<'a> Parser<'a> {
+    // The parser at the first token of a text.
+    pub fn new(text: &'a [u8]) -> Result<Parser<'a>, Refusal>
+        requires { ⌜ length (now text) ≤ 16384 ⌝ }
+        ensures { λ r. ⌜ Begun (now (text .entry)) r ⌝ }
+    {
+        let first = next_limited(text, 0)?;
+        Ok(Parser {
+            token: first.token,
+            place: first.place,
+            rest: first.rest,
+            after: first.after,
+            names: Names::new(),
+            count: 0,
+        })
+    }
+
     // The refusal of the next token.
     pub fn refuse(&self, question: Question) -> Refusal
         ensures { λ r. ⌜ r ≡ refuses question (now (self .entry) .place) ⌝ }
     {
-        Refusal { question, place: self.place }
+        Refusal {
+            question,
+            place: self.place,
+        }
+    }
+
+    // Reads the token after the next one in its place; names and nodes stay as they are.
+    fn fetch(&mut self) -> Result<(), Refusal>
+        requires { ⌜ now self .after + length (now (now self .rest)) ≤ 16384 ⌝ ∗ ⌜ isStop (meant (now self .token)) ≡ false ⌝ }
+        ensures { λ r. ⌜ Fetches (now (self .entry)) (now (self .exit)) r ⌝ }
+    {
+        let lexeme = next_limited(self.rest, self.after)?;
+        self.token = lexeme.token;
+        self.place = lexeme.place;
+        self.rest = lexeme.rest;
+        self.after = lexeme.after;
+        Ok(())
     }
 
     // Goes on to the next token, from any but a name and the end.
@@ -37,7 +73,7 @@ impl<'a> Parser<'a> {
         requires { ⌜ Ready (now self) ⌝ ∗ ⌜ plain (meant (now self .token)) ≡ true ⌝ }
         ensures { λ r. ⌜ Advanced (now (self .entry)) (next (now (self .entry))) (now (self .exit)) r ⌝ }
     {
-        Err(self.refuse(Question::Grammar))
+        self.fetch()
     }
 
     // Reads a name, and gives its number; the program's own has none, and gets 0.
@@ -45,7 +81,14 @@ impl<'a> Parser<'a> {
         requires { ⌜ Ready (now self) ⌝ }
         ensures { λ r. ⌜ Named (now (self .entry)) (now (self .exit)) r ⌝ }
     {
-        Err(self.refuse(Question::Grammar))
+        let Token::Name(word) = self.token else {
+            return Err(self.refuse(Question::Grammar));
+        };
+        let Some(number) = self.names.number(word) else {
+            return Err(self.refuse(Question::NameCount));
+        };
+        self.fetch()?;
+        Ok(number)
     }
 
     // Whether the next token is this mark.
@@ -114,7 +157,7 @@ impl<'a> Parser<'a> {
     {
         let number = self.count;
         if (number as usize) < table.len() {
-            table[number as usize] = tosca::table::BLANK;
+            table[number as usize] = Entry::new(node, place as u16);
         }
         self.count = number + 1;
         number

@@ -5,6 +5,7 @@ use mathlib.Core.List.{List, [], _∷_, _++_}
 use Prim.Native.Nat.{ℕ, suc, _+_, _*_, _≤_, _<_}
 use native.Mathlib.Numerals.{add-one}
 use native.Mathlib.Omega.{arith}
+use borrow.Author.Tests.{lt-ltb}
 use Rattle.std.specs.declared.result.Result.{Result}
 use Rattle.std.specs.declared.result.Result.the-variants.{Ok, Err}
 use Rattle.tosca.specs.declared.operators.Value.{Value}
@@ -33,7 +34,7 @@ use Rattle.reader.specs.Feeds.{Feed, more, knownOf, ahead, next, unread, Ready
 use Rattle.reader.specs.Advancing.{Read, Broken, Listed, Missed, another, cut, Closed, Nameless, many, refuses, isMark, isName, isMinus}
 use Rattle.reader.specs.Advancing as adv
 use Rattle.reader.specs.Parsing.{reading, Goes, Stops, Takes, Parsed}
-use Rattle.reader.proofs.Chains.{chain, chain-stop, above, above-stop, moves, from-feed, from-count, stop-feed, stop-count, reads, stucks, too-deep, too-many, breaks, leaves, lists, doing}
+use Rattle.reader.proofs.Chains.{chain, chain-stop, above, above-stop, moves, from-feed, from-count, stop-feed, stop-count, takes, reads, stucks, too-deep, too-many, breaks, leaves, lists, doing}
 use Rattle.reader.proofs.Loops.{Looped}
 use Rattle.reader.proofs.Levels.{Level, read-token, read-broken, behind, alike, operated, operator-broken, operand-refused, passed, products, sums, relations}
 
@@ -266,3 +267,29 @@ module _ (d i : ℕ) (p q : Parser) (T : List Entry) (deeper : i ≡ d + 1) (lt 
 pub no-minus-either : (d : ℕ) (p z : Parser) (T T″ : List Entry) (r : Result ℕ Refusal) → isMinus (next p) ≡ false → Parsed term d p T z T″ r → Takes (λ L. simple ∷ L) (λ L. simples ∷ L) d p T z T″ r
 no-minus-either d p z T T″ (Ok n) h f = no-minus-ok d n p z T T″ h f
 no-minus-either d p z T T″ (Err e) h f = no-minus-refused d p z T T″ e h f
+
+-- a token that is a factor by itself is listed once it is read
+leaf : {U : List ℕ} {c : ℕ} {T : List Entry} (L : List Sym) (t : Tok) (p : ℕ) (a : Act) (g : Feed) → ((s : Listing) → step list (factor ∷ L) s t p ≡ go L (list a s)) → marks L ≤ 32 → few t ≡ true → Goes (factor ∷ L) U c T (more (at t p) g) (does a ∷ L) U c T g
+leaf L t p a g e m k = moves (λ s. takes (factor ∷ L) L s (list a s) t p g (e s) m k ∙ sym (doing a L s (g .tokens) (g .ending)))
+
+-- a constant, or a variable
+pub constant-ok : (v : Value) (d r : ℕ) → d ≤ 32 → (p q z : Parser) (T T′ : List Entry) → next p ≡ lit v → Read p (next p) q → Listed q T (Const v) (p .place) r z T′ → Parsed factor d p T z T′ (Ok r)
+constant-ok v d r le p q z T T′ h rd l = λ L mk.
+    chain (from-feed (rd .token ∙ ap (λ t. more (at t (p .place)) (ahead q)) h) (from-count (sym (rd .count)) (leaf L (lit v) (p .place) (aConst (p .place) v) (ahead q) (λ s. refl) (subst (λ k. k ≤ 32) (sym mk) le) refl)))
+    (lists (aConst (p .place) v) (λ V es. refl) l)
+
+pub constant-broken : (v : Value) (d : ℕ) → d ≤ 32 → (p z : Parser) (T T′ : List Entry) (e : Refusal) → next p ≡ lit v → Broken p (next p) e → Parsed factor d p T z T′ (Err e)
+constant-broken v d le p z T T′ e h b = λ L mk.
+    stop-feed (b ∙ ap (λ t. more (at t (p .place)) (adv.broken e)) h) (chain-stop (leaf L (lit v) (p .place) (aConst (p .place) v) (adv.broken e) (λ s. refl) (subst (λ k. k ≤ 32) (sym mk) le) refl) (breaks e))
+
+pub variable-ok : (n d r : ℕ) → d ≤ 32 → n < 64 → (p q z : Parser) (T T′ : List Entry) → Read p (name n) q → Listed q T (Var n) (p .place) r z T′ → Parsed factor d p T z T′ (Ok r)
+variable-ok n d r le lt p q z T T′ rd l = λ L mk.
+    chain (from-feed (rd .token) (from-count (sym (rd .count)) (leaf L (name n) (p .place) (aVar (p .place) n) (ahead q) (λ s. refl) (subst (λ k. k ≤ 32) (sym mk) le) (lt-ltb n 64 lt))))
+    (lists (aVar (p .place) n) (λ V es. refl) l)
+
+pub variable-refused : (d : ℕ) → d ≤ 32 → (p z : Parser) (T T′ : List Entry) (e : Refusal) → isName (next p) ≡ true → Nameless p e → Parsed factor d p T z T′ (Err e)
+variable-refused d le p z T T′ e h (adv.Nameless.another k q) = absurd (let z : true ≡ false = sym h ∙ k in let y : _≡_ {A = ℕ} 0 1 = cc in omega arith)
+variable-refused d le p z T T′ e h (adv.Nameless.many m k f a q) = λ L mk.
+    subst (λ r. Stops (factor ∷ L) [] (p .count) T (ahead p) r) (sym q) (stop-feed a (too-many L (λ s. list (aVar (p .place) m) s) (λ s. refl) (subst (λ k. k ≤ 32) (sym mk) le) k))
+variable-refused d le p z T T′ e h (adv.Nameless.cut m lt b) = λ L mk.
+    stop-feed b (chain-stop (leaf L (name m) (p .place) (aVar (p .place) m) (adv.broken e) (λ s. refl) (subst (λ k. k ≤ 32) (sym mk) le) (lt-ltb m 64 lt)) (breaks e))

@@ -16,6 +16,7 @@ use crate::parser::Parser;
 use grammar::symbols::Adding;
 use grammar::symbols::Operator;
 use grammar::symbols::Prefix;
+use lexer::bytes::decimal;
 use lexer::token::Question;
 use lexer::token::Refusal;
 use lexer::token::Token;
@@ -28,7 +29,7 @@ pub fn number(digits: &[u8]) -> i32
     requires { ⌜ limit (digitsOf (now digits)) ≡ 0 ⌝ }
     ensures { λ r. ⌜ r ≡ pos (valueOf (now (digits .entry))) ⌝ }
 {
-    0
+    decimal(digits).unwrap_or(0)
 }
 
 impl<'a> Parser<'a> {

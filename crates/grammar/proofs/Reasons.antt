@@ -28,7 +28,7 @@ data Passed {S : Type 0} (act : Act → S → S) : List Sym → S → List Item 
 data Halt {S : Type 0} (act : Act → S → S) (e : Ending) (J : List Sym) (r : S) : List Item → ℕ → ℕ → Type 0 where
   atEnd : {n p : ℕ} → e ≡ bad n p → Halt act e J r [] n p
   atToken : {t : Tok} {p : ℕ} {ts : List Item} → step act J r t p ≡ stuck → Halt act e J r (at t p ∷ ts) 5 p
-  atDepth : {J′ : List Sym} {r′ : S} {t : Tok} {p : ℕ} {ts : List Item} → step act J r t p ≡ go J′ r′ → Closing J′ → marks J′ ≡ 33 → Halt act e J r (at t p ∷ ts) 6 p
+  atDepth : {J′ : List Sym} {r′ : S} {t : Tok} {p : ℕ} {ts : List Item} → step act J r t p ≡ go J′ r′ → Closing J′ → isStop t ≡ false → marks J′ ≡ 33 → Halt act e J r (at t p ∷ ts) 6 p
   atName : {J′ : List Sym} {r′ : S} {m p : ℕ} {ts : List Item} → step act J r (name m) p ≡ go J′ r′ → Closing J′ → marks J′ ≤ 32 → 64 ≤ m → Halt act e J r (at (name m) p ∷ ts) 7 p
 
 pub stop-few : (t : Tok) → isStop t ≡ true → few t ≡ true
@@ -107,8 +107,13 @@ module _ {S : Type 0} (act : Act → S → S) where
   reason : {e : Ending} {J : List Sym} {s r : S} {front rest : List Item} {n p : ℕ} → Passed act (text ∷ []) s front J r → Closing J → Halt act e J r rest n p → Refused (front ++ rest) e n p
   reason {e} {s} {front} {n} {p} d c (atEnd h) = subst (λ v. Refused v e n p) (sym (append-nil front)) (broken h (kept d) (completes s front (goes-on d) c))
   reason {s} {front} d c (atToken {t} {p} {ts} h) = five t front ts refl (kept d) (completes s front (goes-on d) c) (ends-there t p d h)
-  reason {s} {front} d c (atDepth {t} {p} {ts} h k m) = six t front ts refl (completes s (front ++ (at t p ∷ [])) (goes-further t p d h) k) (λ us u x. subst (λ w. Then front (at t p) w (textDepths x)) m (depth-there t p d h us u x))
+  reason {s} {front} d c (atDepth {t} {p} {ts} h k z m) = six t front ts refl z (completes s (front ++ (at t p ∷ [])) (goes-further t p d h) k) (λ us u x. subst (λ w. Then front (at t p) w (textDepths x)) m (depth-there t p d h us u x))
   reason {s} {front} d c (atName {J′} {m} {p} {ts} h k b l) = seven m front ts refl l (completes s (front ++ (at (name m) p ∷ [])) (goes-further (name m) p d h) k) (λ us u x. (marks J′, b, depth-there (name m) p d h us u x))
+
+  -- a token after which something is expected is not the end
+  goes-past : (b : Bool) (K : List Sym) → (b ≡ true → K ≡ [] → ⊥) → Leaves b K → b ≡ false
+  goes-past true K f h = absurd (f refl h)
+  goes-past false K f h = refl
 
   closes : (b : Bool) (K : List Sym) → (b ≡ true → K ≡ [] → ⊥) → Leaves b K → Closing K
   closes true K f h = absurd (f refl h)
@@ -147,8 +152,8 @@ module _ {S : Type 0} (act : Act → S → S) (e : Ending) (n p : ℕ) where
         (Closing K′ → marks K′ ≤ 32 → run act (limits e) K′ s′ ts ≡ refused n p → Halted act e n p K′ s′ ts) → (o : Outcome S) → Asked t (marks K′) q (run act (limits e) K′ s′ ts) o → o ≡ refused n p → Halted act e n p K s (at t q ∷ ts)
     asks K′ s′ st l d x h o (passes u v) k = later K′ s′ st u v (h (closes act (isStop t) K′ (λ b z. not-after K′ s′ ts z (x b) k) l) u k)
     asks K′ s′ st l d x h o (tooDeep u) k =
-        let c′ = closes act (isStop t) K′ (λ b z. let m : marks K′ ≡ 0 = ap marks z in omega arith) l in
-        here (numbered (atDepth st c′ (omega arith)) k)
+        let deep : isStop t ≡ true → K′ ≡ [] → ⊥ = λ b z. let m : marks K′ ≡ 0 = ap marks z in omega arith in
+        here (numbered (atDepth st (closes act (isStop t) K′ deep l) (goes-past act (isStop t) K′ deep l) (omega arith)) k)
     asks K′ s′ st l d x h o (tooMany u v) k =
         let c′ = closes act (isStop t) K′ (λ b z. let w = stop-few t b in let y : _≡_ {A = ℕ} 0 1 = cc in omega arith) l in
         here (numbered (many (λ w. step act K s w q ≡ go K′ s′ → Halt act e K s (at w q ∷ ts) 7 q) t v (λ m y st′. atName st′ c′ u y) st) k)

@@ -133,7 +133,7 @@ pub data Refused (ts : List Item) (e : Ending) : ℕ → ℕ → Type 0 where
   -- no text goes on with this token
   five : {p : ℕ} (t : Tok) (front rest : List Item) → ts ≡ front ++ (at t p ∷ rest) → Kept front → Completable front → ((us : List Item) (u : tree.Program ℕ) → Text (front ++ (at t p ∷ us)) u → ⊥) → Refused ts e 5 p
   -- some text goes on with it, and in all of them it is 33 deep
-  six : {p : ℕ} (t : Tok) (front rest : List Item) → ts ≡ front ++ (at t p ∷ rest) → Completable (front ++ (at t p ∷ [])) → ((us : List Item) (u : tree.Program ℕ) (d : Text (front ++ (at t p ∷ us)) u) → Then front (at t p) 33 (textDepths d)) → Refused ts e 6 p
+  six : {p : ℕ} (t : Tok) (front rest : List Item) → ts ≡ front ++ (at t p ∷ rest) → isStop t ≡ false → Completable (front ++ (at t p ∷ [])) → ((us : List Item) (u : tree.Program ℕ) (d : Text (front ++ (at t p ∷ us)) u) → Then front (at t p) 33 (textDepths d)) → Refused ts e 6 p
   -- some text goes on with it, in all of them it is at most 32 deep, and it is a name with a number above 63
   seven : {p : ℕ} (m : ℕ) (front rest : List Item) → ts ≡ front ++ (at (name m) p ∷ rest) → 64 ≤ m → Completable (front ++ (at (name m) p ∷ [])) → ((us : List Item) (u : tree.Program ℕ) (d : Text (front ++ (at (name m) p ∷ us)) u) → (n : ℕ) × (n ≤ 32) × Then front (at (name m) p) n (textDepths d)) → Refused ts e 7 p
   -- all tokens are in order, and the bytes after them are not

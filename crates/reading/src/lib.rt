@@ -1,1 +1,2 @@
 // Reading a text into a node table.
+pub mod reading;

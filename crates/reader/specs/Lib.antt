@@ -1,3 +1,4 @@
 pub mod Feeds
 pub mod Advancing
 pub mod Parsing
+pub mod Declaring

@@ -4,3 +4,7 @@ pub mod parser;
 pub mod advancing;
 pub mod leaves;
 pub mod expressions;
+pub mod simple_commands;
+pub mod commands;
+pub mod declarations;
+pub mod program;

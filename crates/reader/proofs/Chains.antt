@@ -13,14 +13,14 @@ use Rattle.tosca.specs.Table.{entry}
 use Rattle.grammar.specs.Tokens.{Tok, name, Item, at}
 use Rattle.grammar.specs.Building.{Act}
 use Rattle.grammar.specs.Automaton.{Sym, does, leave, marks, run, step, Move, stuck, go, after}
-use Rattle.grammar.specs.Listing.{Listing, listing, list}
+use Rattle.grammar.specs.Listing.{Listing, listing, list, laid}
 use Rattle.grammar.specs.Limits.{Outcome, refused, limits, few, asking, Ending}
 use Rattle.lexer.specs.declared.token.Refusal.{Refusal}
 use Rattle.lexer.specs.declared.token.Question.the-variants.{Grammar, Depth, NameCount}
 use Rattle.reader.specs.declared.parser.Parser.{Parser}
 use Rattle.reader.specs.Feeds.{Feed, more, ahead}
 use Rattle.reader.specs.Advancing.{refuses, broken, Listed}
-use Rattle.reader.specs.Parsing.{laid, Holds, reading, refusal, Goes, Stops}
+use Rattle.reader.specs.Parsing.{Holds, reading, refusal, Goes, Stops}
 
 -- one after the other
 pub chain : {J K L : List Sym} {U W X : List ℕ} {c d e : ℕ} {T T′ T″ : List Entry} {f g h : Feed} → Goes J U c T f K W d T′ g → Goes K W d T′ g L X e T″ h → Goes J U c T f L X e T″ h

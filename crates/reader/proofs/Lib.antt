@@ -5,3 +5,9 @@ pub mod Operands
 pub mod NameList
 pub mod StepScan
 pub mod StepToken
+pub mod CommandSteps
+pub mod CommandSimple
+pub mod CommandRing
+pub mod DeclarNames
+pub mod DeclarList
+pub mod DeclarProgram

@@ -3,3 +3,4 @@ pub mod Numbering
 pub mod Advancing
 pub mod Fetching
 pub mod Parsing
+pub mod Declaring

@@ -10,18 +10,12 @@ use Rattle.tosca.specs.declared.table.Node.{Node}
 use Rattle.tosca.specs.Table.{entry}
 use Rattle.grammar.specs.Tokens.{Item, at}
 use Rattle.grammar.specs.Automaton.{Sym, is, marks, run}
-use Rattle.grammar.specs.Listing.{Listing, listing, list}
+use Rattle.grammar.specs.Listing.{Listing, listing, list, laid}
 use Rattle.grammar.specs.Limits.{Outcome, refused, limits}
 use Rattle.lexer.specs.declared.token.Refusal.{Refusal}
 use Rattle.lexer.specs.Lexemes.{number-of}
 use Rattle.reader.specs.declared.parser.Parser.{Parser}
 use Rattle.reader.specs.Feeds.{Feed, ahead, unread, Ready}
-
--- entries over the front of a table, as far as it goes
-abbrev pub laid : List Entry → List Entry → List Entry
-laid [] t = t
-laid (n ∷ ns) [] = []
-laid (n ∷ ns) (x ∷ t) = n ∷ laid ns t
 
 -- the entries es are listed so far, over the table as it was
 abbrev pub Holds : List Entry → List Entry → ℕ → List Entry → Type 0

@@ -71,3 +71,8 @@ pub record Limited (bs : List ℕ) (t : tree.Program ℕ) : Type 0 where
 -- its nodes are at most 1,024, and a table with room for cap entries holds them
 abbrev pub Held : ℕ → tree.Program ℕ → Type 0
 Held cap t = (length (entriesOf t) ≤ 1024) × (length (entriesOf t) ≤ cap)
+
+-- the nodes stand over the front of the table as it was, or the refusal is the outcome's
+abbrev pub Nodes : List ℕ → List Entry → List Entry → Result ℕ Refusal → Type 0
+Nodes bs T T′ (Ok n) = (s : Listing) × (outcome (length T) bs ≡ accepted s) × (length (s .entries) ≡ n) × (T′ ≡ laid (s .entries) T)
+Nodes bs T T′ (Err e) = outcome (length T) bs ≡ refused (number-of (e .question)) (e .place)

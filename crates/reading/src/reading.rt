@@ -2,8 +2,8 @@
 ghost use mathlib.Core.Path.{_≡_};
 ghost use lib.ListN.{length, replicate};
 ghost use Rattle.tosca.specs.Table.{blank};
-ghost use Rattle.reading.specs.Reading.{outcome, answer, answered, tableAfter};
-ghost use Rattle.reading.specs.Reasons.{Explained, Complete, OneTree, Parsed};
+ghost use Rattle.reading.specs.Reading.{outcome, answer, answered, tableAfter, Nodes};
+ghost use Rattle.reading.specs.Reasons.{Explained, Complete, OneTree};
 use lexer::token::Question;
 use lexer::token::Refusal;
 use reader::parser::Parser;
@@ -18,7 +18,7 @@ pub const MAX_NODES: usize = 1024;
 
 // Questions 1 to 8; on a yes the nodes stand at the front of the table.
 fn read_nodes(text: &[u8], table: &mut [Entry]) -> Result<usize, Refusal>
-    ensures { λ r. ⌜ Parsed (now (text .entry)) (now (table .entry)) (now (table .exit)) r ⌝ }
+    ensures { λ r. ⌜ Nodes (now (text .entry)) (now (table .entry)) (now (table .exit)) r ⌝ }
 {
     if text.len() > MAX_TEXT {
         return Err(Refusal { question: Question::TextLength, place: 0 });

@@ -1,0 +1,162 @@
+-- Declared names, which the table has before the automaton lists them.
+use mathlib.Core.Bool.{Bool, true, false, cond}
+use mathlib.Core.Path.{_≡_, refl, sym, ap, subst, _∙_}
+use mathlib.Core.List.{List, [], _∷_, _++_}
+use Prim.Native.Nat.{ℕ, zero, suc, _+_, _-_, _*_, _≤_, _<_}
+use native.Mathlib.Omega.{arith}
+use lib.ListN.{length, set, getD, length-append}
+use borrow.Author.Tests.{lt-ltb}
+use Rattle.std.specs.declared.result.Result.{Result}
+use Rattle.std.specs.declared.result.Result.the-variants.{Ok, Err}
+use Rattle.tosca.specs.declared.operators.SimpleType.{SimpleType}
+use Rattle.tosca.specs.declared.operators.SimpleType.the-variants.{Integer}
+use Rattle.tosca.specs.declared.table.Entry.{Entry}
+use Rattle.tosca.specs.declared.table.Node.the-variants.{Decl}
+use Rattle.tosca.specs.Table.{entry}
+use Rattle.grammar.specs.declared.symbols.Mark.the-variants.{Comma, Colon}
+use Rattle.grammar.specs.Tokens.{Tok, name, ty, mark}
+use Rattle.grammar.specs.Building.{Named, typed, declares}
+use Rattle.grammar.specs.Automaton.{Sym, aName, names, type, marks, step, atMark, stuck, go}
+use Rattle.grammar.specs.Listing.{Listing, listing, list, laid}
+use Rattle.grammar.specs.Limits.{few}
+use Rattle.lexer.specs.declared.token.Refusal.{Refusal}
+use Rattle.reader.specs.declared.parser.Parser.{Parser}
+use Rattle.reader.specs.Feeds.{Feed, ahead, next, unread, Ready}
+use Rattle.reader.specs.Advancing.{isMark, Read, Broken, Missed, Expected, Listed}
+use Rattle.reader.specs.Parsing.{Holds, reading, refusal, Goes, Stops}
+use Rattle.reader.specs.Declaring.{Used, Drafted, Drafts, drafts, retyped, retypedEntry}
+use Rattle.reader.proofs.Chains.{takes, holds-more}
+use Rattle.reader.proofs.CommandSteps.{is-mark, mark-few, not-mark, cuts-off, misses}
+
+append-nil : {A : Type 0} (xs : List A) → xs ++ [] ≡ xs
+append-nil [] = refl
+append-nil (x ∷ xs) = ap (λ t. x ∷ t) (append-nil xs)
+
+append-assoc : {A : Type 0} (xs ys zs : List A) → (xs ++ ys) ++ zs ≡ xs ++ (ys ++ zs)
+append-assoc [] ys zs = refl
+append-assoc (x ∷ xs) ys zs = ap (λ t. x ∷ t) (append-assoc xs ys zs)
+
+drafts-append : (y : SimpleType) (ns ms : List Named) → drafts y (ns ++ ms) ≡ drafts y ns ++ drafts y ms
+drafts-append y [] ms = refl
+drafts-append y (n ∷ ns) ms = ap (λ t. entry (Decl (n .name) y) (n .place) ∷ t) (drafts-append y ns ms)
+
+drafts-length : (y : SimpleType) (ns : List Named) → length (drafts y ns) ≡ length ns
+drafts-length y [] = refl
+drafts-length y (n ∷ ns) = ap suc (drafts-length y ns)
+
+-- within any limit
+pub shallow : {n : ℕ} → n ≡ 0 → n ≤ 32
+shallow m = omega (arith, m)
+
+-- whatever is listed
+pub stops-any : {f : Feed} {w : Refusal} (J : List Sym) → ((c : ℕ) (T : List Entry) → Stops J [] c T f w) → (s : Listing) → reading J s f ≡ refusal w
+stops-any J x s = x (length (s .entries)) (laid (s .entries) []) .stops (s .loose) [] (s .entries) (refl, refl)
+
+-- one token, and no name
+pub no-names : {J K : List Named → Sym} {P A : Parser} {T : List Entry} (t : Tok) → Read P t A → ((ms : List Named) (L : List Sym) (s : Listing) → step list (J ms ∷ L) s t (P .place) ≡ go (K ms ∷ L) s) → ((ms : List Named) (L : List Sym) → marks (K ms ∷ L) ≡ marks L) → few t ≡ true → Drafted J K P T [] A T
+no-names {J} {K} {P} {A} {T} t r e k f = record {
+  reads = λ ms L m s.
+      ap (reading (J ms ∷ L) s) (r .token)
+      ∙ takes (J ms ∷ L) (K ms ∷ L) s s t (P .place) (ahead A) (e ms L s) (shallow (k ms L ∙ m)) f
+      ∙ ap (λ x. reading (K x ∷ L) s (ahead A)) (sym (append-nil ms));
+  holds = λ was es h. subst (λ x. Holds was x (A .count) T) (sym (append-nil es)) (subst (λ c. Holds was es c T) (sym (r .count)) h);
+}
+
+pub nothing-drafted : {J : List Named → Sym} (P : Parser) (T : List Entry) → Drafted J J P T [] P T
+nothing-drafted {J} P T = record {
+  reads = λ ms L m s. ap (λ x. reading (J x ∷ L) s (ahead P)) (sym (append-nil ms));
+  holds = λ was es h. subst (λ x. Holds was x (P .count) T) (sym (append-nil es)) h;
+}
+
+pub drafted-both : {J K M : List Named → Sym} {P Q R : Parser} {T T₁ T₂ : List Entry} {ns ms : List Named} → Drafted J K P T ns Q T₁ → Drafted K M Q T₁ ms R T₂ → Drafted J M P T (ns ++ ms) R T₂
+drafted-both {J} {K} {M} {P} {Q} {R} {T} {T₁} {T₂} {ns} {ms} a b = record {
+  reads = λ ks L m s. a .reads ks L m s ∙ b .reads (ks ++ ns) L m s ∙ ap (λ x. reading (M x ∷ L) s (ahead R)) (append-assoc ks ns ms);
+  holds = λ was es h. subst (λ x. Holds was x (R .count) T₂) (append-assoc es (drafts Integer ns) (drafts Integer ms) ∙ ap (λ x. es ++ x) (sym (drafts-append Integer ns ms))) (b .holds was (es ++ drafts Integer ns) (a .holds was es h));
+}
+
+pub drafted-stop : {J K : List Named → Sym} {P Q : Parser} {T T₁ : List Entry} {ns : List Named} (w : Refusal) → Drafted J K P T ns Q T₁ → ((ms : List Named) (L : List Sym) → marks L ≡ 0 → (s : Listing) → reading (K ms ∷ L) s (ahead Q) ≡ refusal w) → (ms : List Named) (L : List Sym) → marks L ≡ 0 → (s : Listing) → reading (J ms ∷ L) s (ahead P) ≡ refusal w
+drafted-stop {ns} w a b ms L m s = a .reads ms L m s ∙ b (ms ++ ns) L m s
+
+-- a name is listed
+pub one-name : {A : Type 0} (P B Q : Parser) (T T′ : List Entry) (x r : ℕ) (u : A) → x < 64 → Read P (name x) B → Listed B T (Decl x Integer) (P .place) r Q T′ → Drafts aName names P T Q T′ (Ok u)
+one-name P B Q T T′ x r u h a l =
+    let n : Named = record { name = x; place = P .place } in
+    (n ∷ [], record {
+      reads = λ ms L m s.
+          ap (reading (aName ms ∷ L) s) (a .token)
+          ∙ takes (aName ms ∷ L) (names (ms ++ (n ∷ [])) ∷ L) s s (name x) (P .place) (ahead B) refl (shallow m) (lt-ltb x 64 h)
+          ∙ ap (reading (names (ms ++ (n ∷ [])) ∷ L) s) (sym (l .same));
+      holds = λ was es h.
+          let old = subst (λ c. Holds was es c T) (sym (a .count)) h in
+          let new = holds-more was es (B .count) T (entry (Decl x Integer) (P .place)) old in
+          let counted = subst (λ c. Holds was (es ++ (entry (Decl x Integer) (P .place) ∷ [])) c (set T (B .count) (entry (Decl x Integer) (P .place)))) (sym (l .count)) new in
+          subst (λ t. Holds was (es ++ (entry (Decl x Integer) (P .place) ∷ [])) (Q .count) t) (sym (l .wrote)) counted;
+    })
+
+-- {, name}: what the loop keeps
+pub record Naming (P : Parser) (T : List Entry) (Q : Parser) (T′ : List Entry) : Type 0 where
+  pub ready : Ready Q
+  pub fewer : unread Q ≤ unread P
+  pub room : Q .count + 2 * unread Q ≤ P .count + 2 * unread P
+  pub is : (ns : List Named) × Drafted names names P T ns Q T′
+
+comma : (P : Parser) → isMark Comma (next P) ≡ true → (ms : List Named) (L : List Sym) (s : Listing) → step list (names ms ∷ L) s (next P) (P .place) ≡ go (aName ms ∷ L) s
+comma P h ms L s = is-mark Comma (next P) (go (aName ms ∷ L) s) (atMark list Colon (next P) (go (type ms ∷ L) s) stuck) h
+
+pub next-name : {A : Type 0} (P Q B C : Parser) (T T₁ T₂ : List Entry) (u : A) → Naming P T Q T₁ → isMark Comma (next Q) ≡ true → Read Q (next Q) B → Used {A = A} B C (Ok u) → Drafts aName names B T₁ C T₂ (Ok u) → Naming P T C T₂
+next-name P Q B C T T₁ T₂ u k h a l x = record {
+  ready = l .0;
+  fewer = omega (arith, a .one, l .1, k .fewer);
+  room = omega (arith, a .one, a .count, l .2, k .room);
+  is = ((k .is .0 ++ []) ++ x .0, drafted-both (drafted-both (k .is .1) (no-names (next Q) a (comma Q h) (λ ms L. refl) (mark-few Comma (next Q) h))) (x .1));
+}
+
+module _ {A : Type 0} (O P Q : Parser) (S T T₁ : List Entry) (u : A) (f : Drafts aName names O S P T (Ok u)) (k : Naming P T Q T₁) where
+  so-far : Drafted aName names O S (f .0 ++ k .is .0) Q T₁
+  so-far = drafted-both (f .1) (k .is .1)
+
+  pub comma-broken : (R : Parser) (T′ : List Entry) (w : Refusal) → isMark Comma (next Q) ≡ true → Broken Q (next Q) w → Drafts {A = A} aName type O S R T′ (Err w)
+  comma-broken R T′ w h x = drafted-stop w so-far (λ ms L m. stops-any (names ms ∷ L) (λ c T. cuts-off Q (next Q) w (aName ms ∷ L) (λ s. s) x (comma Q h ms L) (shallow m) (mark-few Comma (next Q) h)))
+
+  pub name-wrong : (B R : Parser) (T₂ T′ : List Entry) (w : Refusal) → isMark Comma (next Q) ≡ true → Read Q (next Q) B → Drafts {A = A} aName names B T₁ R T₂ (Err w) → Drafts {A = A} aName type O S R T′ (Err w)
+  name-wrong B R T₂ T′ w h a x = drafted-stop w so-far (drafted-stop w (no-names {J = names} {K = aName} {T = T₁} (next Q) a (comma Q h) (λ ms L. refl) (mark-few Comma (next Q) h)) x)
+
+  pub names-end : (R : Parser) (r : Result A Refusal) → isMark Comma (next Q) ≡ false → Expected Colon Q R r → Drafts aName type O S R T₁ r
+  names-end R (Ok v) h x = ((f .0 ++ k .is .0) ++ [], drafted-both so-far (no-names (mark Colon) x (λ ms L s. refl) (λ ms L. refl) refl))
+  names-end R (Err w) h x = drafted-stop w so-far (λ ms L m. stops-any (names ms ∷ L) (λ c T. misses Q (type ms ∷ L) x (λ i s. not-mark Comma (next Q) (go (aName ms ∷ L) s) (atMark list Colon (next Q) (go (type ms ∷ L) s) stuck) h ∙ not-mark Colon (next Q) (go (type ms ∷ L) s) stuck i) (λ s. refl) (shallow m)))
+
+-- the entries get their type
+retyped-none : (y : SimpleType) (T : List Entry) → retyped y zero zero T ≡ T
+retyped-none y [] = refl
+retyped-none y (e ∷ t) = refl
+
+pub retype-next : (y : SimpleType) (a k j : ℕ) (T : List Entry) (z : Entry) → j ≡ a + k → set (retyped y a k T) j (retypedEntry y (getD (retyped y a k T) j z)) ≡ retyped y a (suc k) T
+retype-next y a k j [] z h = refl
+retype-next y zero zero zero (e ∷ t) z h = ap (λ x. retypedEntry y e ∷ x) (sym (retyped-none y t))
+retype-next y zero zero (suc j) (e ∷ t) z h = absurd (omega (arith, h))
+retype-next y zero (suc k) zero (e ∷ t) z h = absurd (omega (arith, h))
+retype-next y zero (suc k) (suc j) (e ∷ t) z h = ap (λ x. retypedEntry y e ∷ x) (retype-next y zero k j t z (omega (arith, h)))
+retype-next y (suc a) k zero (e ∷ t) z h = absurd (omega (arith, h))
+retype-next y (suc a) k (suc j) (e ∷ t) z h = ap (λ x. e ∷ x) (retype-next y a k j t z (omega (arith, h)))
+
+pub retype-laid : (y : SimpleType) (es was : List Entry) (ns : List Named) → retyped y (length es) (length ns) (laid (es ++ drafts Integer ns) was) ≡ laid (es ++ drafts y ns) was
+retype-laid y [] [] [] = refl
+retype-laid y [] [] (n ∷ ns) = refl
+retype-laid y [] (e ∷ was) [] = refl
+retype-laid y [] (e ∷ was) (n ∷ ns) = ap (λ t. entry (Decl (n .name) y) (n .place) ∷ t) (retype-laid y [] was ns)
+retype-laid y (x ∷ es) [] ns = refl
+retype-laid y (x ∷ es) (e ∷ was) ns = ap (λ t. x ∷ t) (retype-laid y es was ns)
+
+pub retype-holds : (y : SimpleType) (P A : ℕ) (T T′ was es : List Entry) (ns : List Named) → length es ≡ P → Holds was (es ++ drafts Integer ns) A T → T′ ≡ retyped y P (A - P) T → Holds was (es ++ drafts y ns) A T′
+retype-holds y P A T T′ was es ns h k e =
+    let one = length-append es (drafts Integer ns) in
+    let two = length-append es (drafts y ns) in
+    let i = drafts-length Integer ns in
+    let j = drafts-length y ns in
+    let rest : A - P ≡ length ns = omega (arith, one, i, h, k .0) in
+    (omega (arith, one, two, i, j, k .0), e ∙ ap (λ n. retyped y P n T) rest ∙ ap (λ n. retyped y n (length ns) T) (sym h) ∙ ap (retyped y (length es) (length ns)) (k .1) ∙ retype-laid y es was ns)
+
+-- and the automaton lists them
+pub declares-drafts : (y : SimpleType) (ns : List Named) (V : List ℕ) (es : List Entry) → declares list (typed y ns) (listing V es) ≡ listing V (es ++ drafts y ns)
+declares-drafts y [] V es = ap (listing V) (sym (append-nil es))
+declares-drafts y (n ∷ ns) V es = declares-drafts y ns V (es ++ (entry (Decl (n .name) y) (n .place) ∷ [])) ∙ ap (listing V) (append-assoc es (entry (Decl (n .name) y) (n .place) ∷ []) (drafts y ns))

@@ -126,7 +126,7 @@ module _ (cap : ℕ) (bs : List ℕ) (short : length bs ≤ 16384) where
 
 -- what is read of a text, all its tokens being read
 module _ (bs : List ℕ) (short : length bs ≤ 16384) where
-  reads-short : reading bs ≡ reads list (listing [] []) (tokens bs) (ends (limited (scan 0 bs)))
+  pub reads-short : reading bs ≡ reads list (listing [] []) (tokens bs) (ends (limited (scan 0 bs)))
   reads-short = ap (λ b. cond b (reads list (listing [] []) (tokens bs) (ends (limited (scan 0 bs)))) (refused 1 0)) (le-leb (length bs) 16384 short)
 
   -- a text that is read has a derivation within the limits

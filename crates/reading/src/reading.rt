@@ -25,7 +25,7 @@ fn read_nodes(text: &[u8], table: &mut [Entry]) -> Result<usize, Refusal>
     }
     let mut parser = Parser::new(text)?;
     parser.program(table)?;
-    let count = parser.count as usize;
+    let count = usize::from(parser.count);
     if count > MAX_NODES {
         return Err(Refusal { question: Question::NodeCount, place: text.len() });
     }

@@ -26,7 +26,7 @@ use Rattle.reader.specs.Feeds.{Feed, ahead, next, unread, Ready}
 use Rattle.reader.specs.Advancing.{isMark, isName, Read, Broken, Missed, Expected, Nameless, Listed}
 use Rattle.reader.specs.Parsing.{laid, Holds, reading, refusal, Goes, Stops, Takes}
 use Rattle.reader.specs.Declaring.{Used, Passes, Drafted, Drafts, drafts, retyped, isType, Untyped, isBegin, Unbegun, Begun, another, cut}
-use Rattle.reader.proofs.Chains.{chain, chain-stop, takes, lists, leaves}
+use Rattle.reader.proofs.Chains.{chain, chain-stop, moves, takes, lists, leaves}
 use Rattle.reader.proofs.CommandSteps.{clash, reads-on, turns, refused-here, cuts-off, misses, misses-mark, not-mark, is-mark, mark-few, not-name}
 use Rattle.reader.proofs.DeclarNames.{shallow, retype-holds, declares-drafts}
 
@@ -110,6 +110,9 @@ pub record Declaring (P : Parser) (T : List Entry) (Q : Parser) (T′ : List Ent
   pub fewer : unread Q ≤ unread P
   pub room : Q .count + 2 * unread Q ≤ P .count + 2 * unread P
   pub is : (L : List Sym) → marks L ≡ 0 → Goes (decls ∷ L) [] (P .count) T (ahead P) (decls ∷ L) [] (Q .count) T′ (ahead Q)
+
+pub declaring : (P : Parser) (T : List Entry) → Ready P → Declaring P T P T
+declaring P T h = record { ready = h; fewer = omega arith; room = omega arith; is = λ L m. moves (λ s. refl) }
 
 one-more : (L : List Sym) (s : Listing) (t : Tok) (p : ℕ) → isName t ≡ true → step list (decls ∷ L) s t p ≡ step list (aName [] ∷ L) s t p
 one-more L s (name n) p h = refl

@@ -11,8 +11,10 @@ use Rattle.std.specs.declared.result.Result.the-variants.{Ok, Err}
 use Rattle.tosca.specs.declared.operators.SimpleType.{SimpleType}
 use Rattle.tosca.specs.declared.operators.SimpleType.the-variants.{Integer}
 use Rattle.tosca.specs.declared.table.Entry.{Entry}
+use Rattle.tosca.specs.declared.table.Node.{Node}
 use Rattle.tosca.specs.declared.table.Node.the-variants.{Decl}
 use Rattle.tosca.specs.Table.{entry}
+use Rattle.grammar.specs.declared.symbols.Mark.{Mark as Symbol}
 use Rattle.grammar.specs.declared.symbols.Mark.the-variants.{Comma, Colon}
 use Rattle.grammar.specs.Tokens.{Tok, name, ty, mark}
 use Rattle.grammar.specs.Building.{Named, typed, declares}
@@ -24,7 +26,7 @@ use Rattle.reader.specs.declared.parser.Parser.{Parser}
 use Rattle.reader.specs.Feeds.{Feed, ahead, next, unread, Ready}
 use Rattle.reader.specs.Advancing.{isMark, Read, Broken, Missed, Expected, Listed}
 use Rattle.reader.specs.Parsing.{laid, Holds, reading, refusal, Goes, Stops}
-use Rattle.reader.specs.Declaring.{Used, Drafted, Drafts, drafts, retyped, retypedEntry}
+use Rattle.reader.specs.Declaring.{Used, Begun, Drafted, Drafts, drafts, retyped, retypedEntry}
 use Rattle.reader.proofs.Chains.{takes, holds-more}
 use Rattle.reader.proofs.CommandSteps.{is-mark, mark-few, not-mark, cuts-off, misses}
 
@@ -93,12 +95,37 @@ one-name P B Q T T′ x r u h a l =
           subst (λ t. Holds was (es ++ (entry (Decl x Integer) (P .place) ∷ [])) (Q .count) t) (sym (l .wrote)) counted;
     })
 
+pub less-named : {X : Type 0} (P B Q : Parser) (t : Tok) (T T′ : List Entry) (n : Node) (place r : ℕ) (u : X) → Ready P → Read P t B → Listed B T n place r Q T′ → Used P Q (Ok u)
+less-named P B Q t T T′ n place r u h a l =
+    let same : unread Q ≡ unread B = ap (λ f. length (f .tokens)) (l .same) in
+    (l .ready (a .ready) (omega (arith, same, l .count, a .one, a .count, h .room)), omega (arith, same, a .one), omega (arith, same, l .count, a .one, a .count))
+
+-- tokens that are used up, one after another
+pub used-mark : {X : Type 0} (m : Symbol) (P Q : Parser) (r : Result X Refusal) → Expected m P Q r → Used P Q r
+used-mark m P Q (Ok u) a = (a .ready, omega (arith, a .one), omega (arith, a .one, a .count))
+used-mark m P Q (Err w) a = tt
+
+pub used-begin : {X : Type 0} (P Q : Parser) (r : Result X Refusal) → Begun P Q r → Used P Q r
+used-begin P Q (Ok u) a = (a .ready, omega (arith, a .one), omega (arith, a .one, a .count))
+used-begin P Q (Err w) a = tt
+
+pub used-after : {X : Type 0} (P A Q : Parser) (t : Tok) (r : Result X Refusal) → Read P t A → Used A Q r → Used P Q r
+used-after P A Q t (Ok u) a l = (l .0, omega (arith, a .one, l .1), omega (arith, a .one, a .count, l .2))
+used-after P A Q t (Err w) a l = tt
+
+pub used-both : {X Y : Type 0} (O P Q R : Parser) (u : Y) (r : Result X Refusal) → Used {A = Y} O P (Ok u) → unread Q ≤ unread P → Q .count + 2 * unread Q ≤ P .count + 2 * unread P → Used Q R r → Used O R r
+used-both O P Q R u (Ok v) k a b l = (l .0, omega (arith, k .1, a, l .1), omega (arith, k .2, b, l .2))
+used-both O P Q R u (Err w) k a b l = tt
+
 -- {, name}: what the loop keeps
 pub record Naming (P : Parser) (T : List Entry) (Q : Parser) (T′ : List Entry) : Type 0 where
   pub ready : Ready Q
   pub fewer : unread Q ≤ unread P
   pub room : Q .count + 2 * unread Q ≤ P .count + 2 * unread P
   pub is : (ns : List Named) × Drafted names names P T ns Q T′
+
+pub naming : (P : Parser) (T : List Entry) → Ready P → Naming P T P T
+naming P T h = record { ready = h; fewer = omega arith; room = omega arith; is = ([], nothing-drafted P T) }
 
 comma : (P : Parser) → isMark Comma (next P) ≡ true → (ms : List Named) (L : List Sym) (s : Listing) → step list (names ms ∷ L) s (next P) (P .place) ≡ go (aName ms ∷ L) s
 comma P h ms L s = is-mark Comma (next P) (go (aName ms ∷ L) s) (atMark list Colon (next P) (go (type ms ∷ L) s) stuck) h

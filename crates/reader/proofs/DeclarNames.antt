@@ -5,7 +5,8 @@ use mathlib.Core.List.{List, [], _∷_, _++_}
 use Prim.Native.Nat.{ℕ, zero, suc, _+_, _-_, _*_, _≤_, _<_}
 use native.Mathlib.Omega.{arith}
 use lib.ListN.{length, set, getD, length-append}
-use borrow.Author.Tests.{lt-ltb}
+use lib.Dec.{leb}
+use borrow.Author.Tests.{lt-ltb, leb-true, leb-false}
 use Rattle.std.specs.declared.result.Result.{Result}
 use Rattle.std.specs.declared.result.Result.the-variants.{Ok, Err}
 use Rattle.tosca.specs.declared.operators.SimpleType.{SimpleType}
@@ -13,7 +14,7 @@ use Rattle.tosca.specs.declared.operators.SimpleType.the-variants.{Integer}
 use Rattle.tosca.specs.declared.table.Entry.{Entry}
 use Rattle.tosca.specs.declared.table.Node.{Node}
 use Rattle.tosca.specs.declared.table.Node.the-variants.{Decl}
-use Rattle.tosca.specs.Table.{entry}
+use Rattle.tosca.specs.Table.{entry, blank}
 use Rattle.grammar.specs.declared.symbols.Mark.{Mark as Symbol}
 use Rattle.grammar.specs.declared.symbols.Mark.the-variants.{Comma, Colon}
 use Rattle.grammar.specs.Tokens.{Tok, name, ty, mark}
@@ -165,6 +166,35 @@ retype-next y zero (suc k) zero (e ∷ t) z h = absurd (omega (arith, h))
 retype-next y zero (suc k) (suc j) (e ∷ t) z h = ap (λ x. retypedEntry y e ∷ x) (retype-next y zero k j t z (omega (arith, h)))
 retype-next y (suc a) k zero (e ∷ t) z h = absurd (omega (arith, h))
 retype-next y (suc a) k (suc j) (e ∷ t) z h = ap (λ x. e ∷ x) (retype-next y a k j t z (omega (arith, h)))
+
+set-out : (l : List Entry) (i : ℕ) (e : Entry) → length l ≤ i → set l i e ≡ l
+set-out [] i e h = refl
+set-out (x ∷ l) zero e h = absurd (omega (arith, h))
+set-out (x ∷ l) (suc i) e h = ap (λ t. x ∷ t) (set-out l i e (omega (arith, h)))
+
+retyped-zero : (y : SimpleType) (a : ℕ) (T : List Entry) → retyped y a zero T ≡ T
+retyped-zero y a [] = refl
+retyped-zero y zero (e ∷ t) = refl
+retyped-zero y (suc a) (e ∷ t) = ap (λ x. e ∷ x) (retyped-zero y a t)
+
+pub retype-starts : (y : SimpleType) (a : ℕ) (T : List Entry) → T ≡ retyped y a (a - a) T
+retype-starts y a T = let z : a - a ≡ 0 = omega arith in sym (ap (λ n. retyped y a n T) z ∙ retyped-zero y a T)
+
+pub retype-one : (y : SimpleType) (a n : ℕ) (S T X : List Entry) (z : Entry) → a ≤ n → T ≡ retyped y a (n - a) S → X ≡ set T n (retypedEntry y (getD T n z)) → X ≡ retyped y a ((n + 1) - a) S
+retype-one y a n S T X z h e i =
+    let k : suc (n - a) ≡ (n + 1) - a = omega (arith, h) in
+    let j : n ≡ a + (n - a) = omega (arith, h) in
+    i ∙ ap (λ t. set t n (retypedEntry y (getD t n z))) e ∙ retype-next y a (n - a) n S z j ∙ ap (λ m. retyped y a m S) k
+
+pub retype-out : (y : SimpleType) (a n : ℕ) (S T X : List Entry) → a ≤ n → T ≡ retyped y a (n - a) S → length T ≤ n → X ≡ T → X ≡ retyped y a ((n + 1) - a) S
+retype-out y a n S T X h e k i = retype-one y a n S T X blank h e (i ∙ sym (set-out T n (retypedEntry y (getD T n blank)) k))
+
+pub retype-ends : (y : SimpleType) (a b n : ℕ) (S T : List Entry) → (a ≤ b → n ≤ b) → (b ≤ a → n ≤ a) → b ≤ n → T ≡ retyped y a (n - a) S → T ≡ retyped y a (b - a) S
+retype-ends y a b n S T up none h e = e ∙ ap (λ m. retyped y a m S) (whole (leb a b) refl)
+  where
+    whole : (c : Bool) → leb a b ≡ c → n - a ≡ b - a
+    whole true x = let k = up (leb-true a b x) in omega (arith, k, h)
+    whole false x = let l = leb-false a b x in let k = none (omega (arith, l)) in omega (arith, k, l)
 
 pub retype-laid : (y : SimpleType) (es was : List Entry) (ns : List Named) → retyped y (length es) (length ns) (laid (es ++ drafts Integer ns) was) ≡ laid (es ++ drafts y ns) was
 retype-laid y [] [] [] = refl

@@ -21,6 +21,6 @@ returns c =
     let n = c .in-Continue-declared-names .ensures tt in
     let y = c .in-Continue-typ .ensures tt in
     record {
-      less = used-both (c .args .self .now) (c .declared-names .last .self) (c .type-name .last .self) (c .expect .last .self) tt (c .expect .result) (n .less) (omega (arith, y .one)) (omega (arith, y .one, y .count)) (used-mark Semicolon (c .type-name .last .self) (c .expect .last .self) (c .expect .result) (c .expect .ensures));
+      less = used-both (c .args .self .now) (c .declared-names .last .self) (c .type-name .last .self) (c .expect .last .self) (tt {0}) (c .expect .result) (n .less) (omega (arith, y .one)) (omega (arith, y .one, y .count)) (used-mark Semicolon (c .type-name .last .self) (c .expect .last .self) (c .expect .result) (c .expect .ensures));
       is = declared (c .args .self .now) (c .declared-names .last .self) (c .args .table .now) (c .declared-names .last .table) (n .is .0) (n .is .1) (c .type-name .last .self) (c .expect .last .self) (c .retype .last .table) (c .in-Continue-typ .typ) (c .expect .result) y (c .retype .ensures) (c .expect .ensures);
     }

@@ -1,8 +1,8 @@
 -- Commands that hold others, exit by exit.
-use mathlib.Core.Bool.{Bool, true, false, cond}
-use mathlib.Core.Path.{_≡_, refl, sym, ap, subst, _∙_}
-use mathlib.Core.List.{List, [], _∷_, _++_}
-use Prim.Native.Nat.{ℕ, suc, _+_, _*_, _≤_, _<_}
+use mathlib.Core.Bool.{true, false, cond}
+use mathlib.Core.Path.{_≡_, refl, sym, ap, _∙_}
+use mathlib.Core.List.{List, [], _∷_}
+use Prim.Native.Nat.{ℕ, suc, _+_, _≤_, _<_}
 use native.Mathlib.Numerals.{add-one}
 use native.Mathlib.Omega.{arith}
 use lib.ListN.{length}
@@ -13,21 +13,21 @@ use Rattle.tosca.specs.declared.table.Node.{Node}
 use Rattle.tosca.specs.declared.table.Node.the-variants.{Choice, Loop, Seq, Skip}
 use Rattle.grammar.specs.declared.symbols.Mark.{Mark}
 use Rattle.grammar.specs.declared.symbols.Mark.the-variants.{Then, Do, Semicolon, End}
-use Rattle.grammar.specs.declared.symbols.Start.the-variants.{Begin, If, While, Read, Write}
-use Rattle.grammar.specs.Tokens.{Tok, name, lit, op, pre, start, else′, unused, ty, mark, isElse, isCmd, at}
+use Rattle.grammar.specs.declared.symbols.Start.the-variants.{Begin, If, While, Read}
+use Rattle.grammar.specs.Tokens.{Tok, name, lit, op, pre, start, else′, unused, ty, mark, isElse, isCmd}
 use Rattle.grammar.specs.Building.{aChoice, aLoop, aSeq, aSkip}
 use Rattle.grammar.specs.Automaton.{Sym, expr, cmd, cmds, elses, is, does, leave, marks, step, atMark, atCmd, Move, stuck, go, after}
 use Rattle.grammar.specs.Listing.{Listing, list}
-use Rattle.grammar.specs.Limits.{few, limits}
+use Rattle.grammar.specs.Limits.{few}
 use Rattle.lexer.specs.declared.token.Refusal.{Refusal}
 use Rattle.reader.specs.declared.parser.Parser.{Parser}
 use Rattle.reader.specs.Feeds.{ahead, next, unread, Ready}
 use Rattle.reader.specs.Advancing.{isMark, Missed, Broken, Listed}
 use Rattle.reader.specs.Advancing as tokens
-use Rattle.reader.specs.Parsing.{reading, Goes, Stops, Takes, Parsed, Less}
+use Rattle.reader.specs.Parsing.{Goes, Takes, Parsed, Less}
 use Rattle.reader.specs.Declaring.{Roomy}
-use Rattle.reader.proofs.Chains.{chain, chain-stop, above, above-stop, moves, lists, leaves}
-use Rattle.reader.proofs.CommandSteps.{behind, clash, reads-on, cuts-off, misses, misses-mark, not-mark, is-mark, mark-few, turns}
+use Rattle.reader.proofs.Chains.{chain, chain-stop, above, above-stop, lists, leaves}
+use Rattle.reader.proofs.CommandSteps.{clash, reads-on, cuts-off, misses, misses-mark, not-mark, is-mark, mark-few, turns}
 use Rattle.reader.proofs.CommandSimple.{within-limit, listed-less}
 use Rattle.reader.proofs.Loops.{Looped}
 

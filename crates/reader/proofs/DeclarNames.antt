@@ -1,5 +1,5 @@
 -- Declared names, which the table has before the automaton lists them.
-use mathlib.Core.Bool.{Bool, true, false, cond}
+use mathlib.Core.Bool.{Bool, true, false}
 use mathlib.Core.Path.{_≡_, refl, sym, ap, subst, _∙_}
 use mathlib.Core.List.{List, [], _∷_, _++_}
 use Prim.Native.Nat.{ℕ, zero, suc, _+_, _-_, _*_, _≤_, _<_}
@@ -17,7 +17,7 @@ use Rattle.tosca.specs.declared.table.Node.the-variants.{Decl}
 use Rattle.tosca.specs.Table.{entry, blank}
 use Rattle.grammar.specs.declared.symbols.Mark.{Mark as Symbol}
 use Rattle.grammar.specs.declared.symbols.Mark.the-variants.{Comma, Colon}
-use Rattle.grammar.specs.Tokens.{Tok, name, ty, mark}
+use Rattle.grammar.specs.Tokens.{Tok, name, mark}
 use Rattle.grammar.specs.Building.{Named, typed, declares}
 use Rattle.grammar.specs.Automaton.{Sym, aName, names, type, marks, step, atMark, stuck, go}
 use Rattle.grammar.specs.Listing.{Listing, listing, list}
@@ -25,8 +25,8 @@ use Rattle.grammar.specs.Limits.{few}
 use Rattle.lexer.specs.declared.token.Refusal.{Refusal}
 use Rattle.reader.specs.declared.parser.Parser.{Parser}
 use Rattle.reader.specs.Feeds.{Feed, ahead, next, unread, Ready}
-use Rattle.reader.specs.Advancing.{isMark, Read, Broken, Missed, Expected, Listed}
-use Rattle.reader.specs.Parsing.{laid, Holds, reading, refusal, Goes, Stops}
+use Rattle.reader.specs.Advancing.{isMark, Read, Broken, Expected, Listed}
+use Rattle.reader.specs.Parsing.{laid, Holds, reading, refusal, Stops}
 use Rattle.reader.specs.Declaring.{Used, Begun, Drafted, Drafts, drafts, retyped, retypedEntry}
 use Rattle.reader.proofs.Chains.{takes, holds-more}
 use Rattle.reader.proofs.CommandSteps.{is-mark, mark-few, not-mark, cuts-off, misses}
@@ -83,18 +83,20 @@ drafted-stop {ns} w a b ms L m s = a .reads ms L m s ∙ b (ms ++ ns) L m s
 -- a name is listed
 pub one-name : {A : Type 0} (P B Q : Parser) (T T′ : List Entry) (x r : ℕ) (u : A) → x < 64 → Read P (name x) B → Listed B T (Decl x Integer) (P .place) r Q T′ → Drafts aName names P T Q T′ (Ok u)
 one-name P B Q T T′ x r u h a l =
-    let n : Named = record { name = x; place = P .place } in
-    (n ∷ [], record {
-      reads = λ ms L m s.
-          ap (reading (aName ms ∷ L) s) (a .token)
-          ∙ takes (aName ms ∷ L) (names (ms ++ (n ∷ [])) ∷ L) s s (name x) (P .place) (ahead B) refl (shallow m) (lt-ltb x 64 h)
-          ∙ ap (reading (names (ms ++ (n ∷ [])) ∷ L) s) (sym (l .same));
-      holds = λ was es h.
-          let old = subst (λ c. Holds was es c T) (sym (a .count)) h in
-          let new = holds-more was es (B .count) T (entry (Decl x Integer) (P .place)) old in
-          let counted = subst (λ c. Holds was (es ++ (entry (Decl x Integer) (P .place) ∷ [])) c (set T (B .count) (entry (Decl x Integer) (P .place)))) (sym (l .count)) new in
-          subst (λ t. Holds was (es ++ (entry (Decl x Integer) (P .place) ∷ [])) (Q .count) t) (sym (l .wrote)) counted;
-    })
+    let n : Named = record { name = x; place = P .place } in (
+      n ∷ [],
+      record {
+        reads = λ ms L m s.
+            ap (reading (aName ms ∷ L) s) (a .token)
+            ∙ takes (aName ms ∷ L) (names (ms ++ (n ∷ [])) ∷ L) s s (name x) (P .place) (ahead B) refl (shallow m) (lt-ltb x 64 h)
+            ∙ ap (reading (names (ms ++ (n ∷ [])) ∷ L) s) (sym (l .same));
+        holds = λ was es h.
+            let old = subst (λ c. Holds was es c T) (sym (a .count)) h in
+            let new = holds-more was es (B .count) T (entry (Decl x Integer) (P .place)) old in
+            let counted = subst (λ c. Holds was (es ++ (entry (Decl x Integer) (P .place) ∷ [])) c (set T (B .count) (entry (Decl x Integer) (P .place)))) (sym (l .count)) new in
+            subst (λ t. Holds was (es ++ (entry (Decl x Integer) (P .place) ∷ [])) (Q .count) t) (sym (l .wrote)) counted;
+      },
+    )
 
 pub less-named : {X : Type 0} (P B Q : Parser) (t : Tok) (T T′ : List Entry) (n : Node) (place r : ℕ) (u : X) → Ready P → Read P t B → Listed B T n place r Q T′ → Used P Q (Ok u)
 less-named P B Q t T T′ n place r u h a l =

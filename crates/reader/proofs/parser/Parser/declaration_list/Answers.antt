@@ -6,13 +6,8 @@ use Rattle.reader.specs.Feeds.{knownOf}
 use Rattle.reader.specs.Advancing.{isName}
 use Rattle.reader.proofs.CommandSteps.{no-name}
 use Rattle.reader.proofs.DeclarNames.{used-begin, used-both}
-use Rattle.reader.proofs.DeclarList.{declaring, next-declared, next-wrong, list-end, first-wrong}
+use Rattle.reader.proofs.DeclarList.{declaring, next-declared, next-wrong, list-end}
 use Rattle.reader.proofs.parser.Parser.declaration_list.Needs as need
-
-pub returns-in-Break-declaration : need.returns-in-Break-declaration
-returns-in-Break-declaration c =
-    let x = err-from-errBy (c .from-residual .result) (c .from-residual .ensures .1) in
-    rw (x .1, x .2) (record { less = tt; is = first-wrong (c .args .self .now) (c .declaration .last .self) (c .declaration .last .self) (c .args .table .now) (c .declaration .last .table) (c .declaration .last .table) (c .in-Break-declaration .field-0 .0) (c .in-Break-declaration .ensures tt .is) })
 
 pub loop-self-holds : need.loop-self-holds
 loop-self-holds c = declaring (c .declaration .last .self) (c .declaration .last .table) (c .in-Continue-declaration .ensures tt .less .0)

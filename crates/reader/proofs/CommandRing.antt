@@ -1,32 +1,34 @@
 -- Commands that hold others, exit by exit.
-use mathlib.Core.Bool.{Bool, true, false, cond}
-use mathlib.Core.Path.{_≡_, refl, sym, ap, subst, _∙_}
-use mathlib.Core.List.{List, [], _∷_, _++_}
-use Prim.Native.Nat.{ℕ, suc, _+_, _*_, _≤_, _<_}
+use mathlib.Core.Bool.{true, false, cond}
+use mathlib.Core.Path.{_≡_, refl, sym, ap, _∙_}
+use mathlib.Core.List.{List, [], _∷_}
+use Prim.Native.Nat.{ℕ, suc, _+_, _≤_, _<_}
 use native.Mathlib.Numerals.{add-one}
 use native.Mathlib.Omega.{arith}
 use lib.ListN.{length}
 use Rattle.std.specs.declared.result.Result.{Result}
 use Rattle.std.specs.declared.result.Result.the-variants.{Ok, Err}
 use Rattle.tosca.specs.declared.table.Entry.{Entry}
+use Rattle.tosca.specs.declared.table.Node.{Node}
 use Rattle.tosca.specs.declared.table.Node.the-variants.{Choice, Loop, Seq, Skip}
 use Rattle.grammar.specs.declared.symbols.Mark.{Mark}
 use Rattle.grammar.specs.declared.symbols.Mark.the-variants.{Then, Do, Semicolon, End}
-use Rattle.grammar.specs.declared.symbols.Start.the-variants.{Begin, If, While, Read, Write}
-use Rattle.grammar.specs.Tokens.{Tok, name, lit, op, pre, start, else′, unused, ty, mark, isElse, isCmd, at}
+use Rattle.grammar.specs.declared.symbols.Start.the-variants.{Begin, If, While, Read}
+use Rattle.grammar.specs.Tokens.{Tok, name, lit, op, pre, start, else′, unused, ty, mark, isElse, isCmd}
 use Rattle.grammar.specs.Building.{aChoice, aLoop, aSeq, aSkip}
 use Rattle.grammar.specs.Automaton.{Sym, expr, cmd, cmds, elses, is, does, leave, marks, step, atMark, atCmd, Move, stuck, go, after}
 use Rattle.grammar.specs.Listing.{Listing, list}
-use Rattle.grammar.specs.Limits.{few, limits}
+use Rattle.grammar.specs.Limits.{few}
 use Rattle.lexer.specs.declared.token.Refusal.{Refusal}
 use Rattle.reader.specs.declared.parser.Parser.{Parser}
 use Rattle.reader.specs.Feeds.{ahead, next, unread, Ready}
 use Rattle.reader.specs.Advancing.{isMark, Missed, Broken, Listed}
 use Rattle.reader.specs.Advancing as tokens
-use Rattle.reader.specs.Parsing.{reading, Goes, Stops, Takes, Parsed, Less}
-use Rattle.reader.proofs.Chains.{chain, chain-stop, above, above-stop, moves, lists, leaves}
-use Rattle.reader.proofs.CommandSteps.{behind, clash, reads-on, cuts-off, misses, misses-mark, not-mark, is-mark, mark-few, turns}
-use Rattle.reader.proofs.CommandSimple.{within-limit}
+use Rattle.reader.specs.Parsing.{Goes, Takes, Parsed, Less}
+use Rattle.reader.specs.Declaring.{Roomy}
+use Rattle.reader.proofs.Chains.{chain, chain-stop, above, above-stop, lists, leaves}
+use Rattle.reader.proofs.CommandSteps.{clash, reads-on, cuts-off, misses, misses-mark, not-mark, is-mark, mark-few, turns}
+use Rattle.reader.proofs.CommandSimple.{within-limit, listed-less}
 use Rattle.reader.proofs.Loops.{Looped}
 
 -- one level more
@@ -53,6 +55,18 @@ less-after a b P A Q t (Err w) h x l = tt
 pub less-slack : (P Q : Parser) (r : Result ℕ Refusal) → Less 0 P Q r → Less 1 P Q r
 less-slack P Q (Ok n) l = (l .0, omega (arith, l .1), omega (arith, l .2))
 less-slack P Q (Err w) l = tt
+
+pub less-looped : (P A B C D E : Parser) (t u : Tok) (T T′ : List Entry) (n : Node) (place v w r : ℕ) → Ready P → tokens.Read P t A → Less 0 A B (Ok v) → tokens.Read B u C → Less 1 C D (Ok w) → Listed D T n place r E T′ → Less 0 P E (Ok r)
+less-looped P A B C D E t u T T′ n place v w r h a x b y l = listed-less 0 P D E T T′ n place r (omega (arith, h .room)) (y .0) l (omega (arith, a .one, x .1, b .one, y .1)) (omega (arith, a .one, a .count, x .2, b .one, b .count, y .2))
+
+pub less-chosen : (P A B C D E F : Parser) (t u : Tok) (T T′ : List Entry) (n : Node) (place v w z r : ℕ) → Ready P → tokens.Read P t A → Less 0 A B (Ok v) → tokens.Read B u C → Less 1 C D (Ok w) → Less 1 D E (Ok z) → Listed E T n place r F T′ → Less 0 P F (Ok r)
+less-chosen P A B C D E F t u T T′ n place v w z r h a x b y o l = listed-less 0 P E F T T′ n place r (omega (arith, h .room)) (o .0) l (omega (arith, a .one, x .1, b .one, y .1, o .1)) (omega (arith, a .one, a .count, x .2, b .one, b .count, y .2, o .2))
+
+pub less-skipped : (P Q : Parser) (T T′ : List Entry) (n : Node) (place r : ℕ) → Ready P → Roomy P → Listed P T n place r Q T′ → Less 1 P Q (Ok r)
+less-skipped P Q T T′ n place r h k l = listed-less 1 P P Q T T′ n place r (omega (arith, k)) h l (omega arith) (omega arith)
+
+pub less-ended : (O P Q A : Parser) (t : Tok) (T T₁ : List Entry) (d n m : ℕ) → Less 1 O P (Ok n) → Looped cmds d n P T m Q T₁ → tokens.Read Q t A → Less 0 O A (Ok m)
+less-ended O P Q A t T T₁ d n m l k a = (a .ready, omega (arith, l .1, k .fewer, a .one), omega (arith, l .2, k .room, a .one, a .count))
 
 -- an opener with a test, a mark and a command, and then R
 pub record Guard (R : List Sym → List Sym) (m : Mark) (d e : ℕ) (P A : Parser) (T : List Entry) : Type 0 where

@@ -1,7 +1,7 @@
 -- Commands that hold no other, exit by exit.
-use mathlib.Core.Path.{_≡_, refl, sym, ap, subst, _∙_}
-use mathlib.Core.List.{List, [], _∷_, _++_}
-use Prim.Native.Nat.{ℕ, suc, _+_, _*_, _≤_, _<_}
+use mathlib.Core.Path.{_≡_, refl, sym, ap, subst}
+use mathlib.Core.List.{List, [], _∷_}
+use Prim.Native.Nat.{ℕ, _+_, _*_, _≤_, _<_}
 use native.Mathlib.Omega.{arith}
 use lib.ListN.{length}
 use borrow.Author.Tests.{lt-ltb}
@@ -12,7 +12,7 @@ use Rattle.tosca.specs.declared.table.Node.the-variants.{Assign, Input, Output}
 use Rattle.grammar.specs.declared.symbols.Mark.the-variants.{Becomes, Close}
 use Rattle.grammar.specs.declared.symbols.Prefix.the-variants.{Open}
 use Rattle.grammar.specs.declared.symbols.Start.the-variants as begins
-use Rattle.grammar.specs.Tokens.{name, pre, start, mark}
+use Rattle.grammar.specs.Tokens.{Tok, name, pre, start, mark}
 use Rattle.grammar.specs.Building.{aAssign, aInput, aOutput}
 use Rattle.grammar.specs.Automaton.{Sym, expr, cmd, is, does, marks}
 use Rattle.lexer.specs.declared.token.Refusal.{Refusal}
@@ -31,6 +31,18 @@ pub listed-less : (slack : ℕ) (P C D : Parser) (T T′ : List Entry) (n : Node
 listed-less slack P C D T T′ n place r h k l a b =
     let same : unread D ≡ unread C = ap (λ f. length (f .tokens)) (l .same) in
     (l .ready k (omega (arith, same, l .count, h, b)), omega (arith, same, a), omega (arith, same, l .count, b))
+
+-- the tokens of the simple commands
+pub less-assigned : (P A B C D : Parser) (t u : Tok) (T T′ : List Entry) (n : Node) (place v r : ℕ) → Ready P → Read P t A → Read A u B → Less 0 B C (Ok v) → Listed C T n place r D T′ → Less 0 P D (Ok r)
+less-assigned P A B C D t u T T′ n place v r h a b e l = listed-less 0 P C D T T′ n place r (omega (arith, h .room)) (e .0) l (omega (arith, a .one, b .one, e .1)) (omega (arith, a .one, a .count, b .one, b .count, e .2))
+
+pub less-output : (P A B C D E : Parser) (t u x : Tok) (T T′ : List Entry) (n : Node) (place v r : ℕ) → Ready P → Read P t A → Read A u B → Less 0 B C (Ok v) → Read C x D → Listed D T n place r E T′ → Less 0 P E (Ok r)
+less-output P A B C D E t u x T T′ n place v r h a b e c l = listed-less 0 P D E T T′ n place r (omega (arith, h .room)) (c .ready) l (omega (arith, a .one, b .one, e .1, c .one)) (omega (arith, a .one, a .count, b .one, b .count, e .2, c .one, c .count))
+
+pub less-input : (P A B C D E : Parser) (t u x y : Tok) (T T′ : List Entry) (n : Node) (place r v : ℕ) → Read P t A → Read A u B → Read B x C → Listed C T n place r D T′ → Read D y E → Less 0 P E (Ok v)
+less-input P A B C D E t u x y T T′ n place r v a b c l d =
+    let same : unread D ≡ unread C = ap (λ f. length (f .tokens)) (l .same) in
+    (d .ready, omega (arith, a .one, b .one, c .one, same, d .one), omega (arith, a .one, a .count, b .one, b .count, c .one, c .count, same, l .count, d .one, d .count))
 
 -- name := expr
 assigning : (d : ℕ) (P A B : Parser) (T : List Entry) (x : ℕ) (L : List Sym) → marks L ≡ d → d ≤ 32 → x < 64 → Read P (name x) A → Read A (mark Becomes) B → Goes (cmd ∷ L) [] (P .count) T (ahead P) (expr ∷ does (aAssign (A .place) x) ∷ L) [] (B .count) T (ahead B)

@@ -1,29 +1,31 @@
 -- The parser's small steps as moves of the automaton.
-use mathlib.Core.Bool.{Bool, true, false, cond}
+use mathlib.Core.Bool.{true, false, cond}
 use mathlib.Core.Path.{_≡_, refl, sym, ap, subst, _∙_}
-use mathlib.Core.List.{List, [], _∷_, _++_}
-use Prim.Native.Nat.{ℕ, suc, _+_, _*_, _≤_, _<_}
+use mathlib.Core.List.{List, _∷_, _++_}
+use Prim.Native.Nat.{ℕ, _≤_}
 use native.Mathlib.Omega.{arith}
-use borrow.Author.Tests.{lt-ltb}
+use denote.Ref.{RefT}
 use Rattle.tosca.specs.declared.table.Entry.{Entry}
-use Rattle.grammar.specs.declared.symbols.Mark.{Mark}
-use Rattle.grammar.specs.declared.symbols.Prefix.the-variants.{Open, Not, Round}
-use Rattle.grammar.specs.Tokens.{Tok, name, lit, op, pre, start, else′, unused, ty, mark, Item, at}
+use Rattle.grammar.specs.declared.symbols.Mark.{Mark as Symbol}
+use Rattle.grammar.specs.declared.symbols.Start.{Start as Opener}
+use Rattle.grammar.specs.Tokens.{Tok, name, lit, op, pre, start, else′, unused, ty, mark, at, isElse, isCmd}
 use Rattle.grammar.specs.Building.{Act}
-use Rattle.grammar.specs.Automaton.{Sym, is, isOpen, does, marks, step, atMark, atOpen, atName, Move, stuck, go, after}
+use Rattle.grammar.specs.Automaton.{Sym, is, does, marks, step, atMark, atName, Move, stuck, go, after}
 use Rattle.grammar.specs.Listing.{Listing, listing, list}
 use Rattle.grammar.specs.Limits.{few, limits}
 use Rattle.lexer.specs.declared.token.Refusal.{Refusal}
-use Rattle.lexer.specs.declared.token.Question.the-variants.{Grammar, Depth, NameCount}
-use Rattle.lexer.specs.Lexemes.{meant}
+use Rattle.lexer.specs.declared.token.Question.the-variants.{Grammar}
+use Rattle.lexer.specs.declared.token.Token.{Token}
+use Rattle.lexer.specs.declared.token.Token.the-variants.{Name, Number, Truth, Operator, Prefix, Start, Else, TypeName, Mark, Unused}
+use Rattle.lexer.specs.Lexemes.{meant, other}
 use Rattle.lexer.specs.Scan.{over, scan, isStop, limited}
-use Rattle.lexer.specs.Names.{learns}
+use Rattle.lexer.specs.Names.{Known, tok, learns}
 use Rattle.reader.specs.declared.parser.Parser.{Parser}
 use Rattle.reader.specs.Feeds.{Feed, more, feed, knownOf, ahead, next}
-use Rattle.reader.specs.Advancing.{isMark, isName, refuses, broken, Read, Broken, Missed, another, cut, Closed, Nameless, many}
+use Rattle.reader.specs.Advancing.{isMark, isName, refuses, broken, Read, Broken, Missed, another, cut}
 use Rattle.reader.specs.Advancing as step
-use Rattle.reader.specs.Parsing.{reading, refusal, Goes, Stops}
-use Rattle.reader.proofs.Chains.{from-feed, from-count, stop-feed, moves, takes, reads, stucks, too-deep, too-many, doing}
+use Rattle.reader.specs.Parsing.{reading, Goes, Stops}
+use Rattle.reader.proofs.Chains.{from-feed, from-count, stop-feed, moves, takes, reads, stucks, doing}
 
 -- what follows the next token
 abbrev pub behind : Parser → Feed
@@ -55,7 +57,7 @@ refused-here {J} {U} {c} {T} p e i = subst (λ x. Stops J U c T (ahead p) x) (sy
 pub turns : {J K : List Sym} {U : List ℕ} {c : ℕ} {T : List Entry} (p : Parser) → ((s : Listing) → step list J s (next p) (p .place) ≡ step list K s (next p) (p .place)) → Goes J U c T (ahead p) K U c T (ahead p)
 turns {J} {K} p e = moves (λ s. ap (λ v. after list (limits (behind p .ending)) (at (next p) (p .place)) (behind p .tokens) v (λ K″ s″. reading K″ s″ (behind p))) (e s))
 
-pub not-mark : (m : Mark) (t : Tok) (a b : Move Listing) → isMark m t ≡ false → atMark list m t a b ≡ b
+pub not-mark : (m : Symbol) (t : Tok) (a b : Move Listing) → isMark m t ≡ false → atMark list m t a b ≡ b
 not-mark m (mark x) a b h = ap (λ c. cond c a b) h
 not-mark m (name n) a b h = refl
 not-mark m (lit l) a b h = refl
@@ -66,7 +68,7 @@ not-mark m else′ a b h = refl
 not-mark m unused a b h = refl
 not-mark m (ty y) a b h = refl
 
-pub is-mark : (m : Mark) (t : Tok) (a b : Move Listing) → isMark m t ≡ true → atMark list m t a b ≡ a
+pub is-mark : (m : Symbol) (t : Tok) (a b : Move Listing) → isMark m t ≡ true → atMark list m t a b ≡ a
 is-mark m (mark x) a b h = ap (λ c. cond c a b) h
 is-mark m (name n) a b h = clash (sym h)
 is-mark m (lit l) a b h = clash (sym h)
@@ -77,7 +79,7 @@ is-mark m else′ a b h = clash (sym h)
 is-mark m unused a b h = clash (sym h)
 is-mark m (ty y) a b h = clash (sym h)
 
-pub mark-few : (m : Mark) (t : Tok) → isMark m t ≡ true → few t ≡ true
+pub mark-few : (m : Symbol) (t : Tok) → isMark m t ≡ true → few t ≡ true
 mark-few m (mark x) h = refl
 mark-few m (name n) h = clash (sym h)
 mark-few m (lit l) h = refl
@@ -87,19 +89,6 @@ mark-few m (start x) h = refl
 mark-few m else′ h = refl
 mark-few m unused h = refl
 mark-few m (ty y) h = refl
-
-pub not-open : (t : Tok) (a : Move Listing) → step.isOpen t ≡ false → atOpen list t a ≡ stuck
-not-open (pre Open) a h = clash h
-not-open (pre Not) a h = refl
-not-open (pre Round) a h = refl
-not-open (mark x) a h = refl
-not-open (name n) a h = refl
-not-open (lit l) a h = refl
-not-open (op o) a h = refl
-not-open (start x) a h = refl
-not-open else′ a h = refl
-not-open unused a h = refl
-not-open (ty y) a h = refl
 
 pub not-name : (t : Tok) (f : ℕ → Move Listing) (b : Move Listing) → isName t ≡ false → atName list t f b ≡ b
 not-name (name n) f b h = clash h
@@ -113,19 +102,49 @@ not-name unused f b h = refl
 not-name (ty y) f b h = refl
 
 -- a mark that alone may stand there is missing, or what follows it is refused
-pub misses : {J : List Sym} {U : List ℕ} {c : ℕ} {T : List Entry} {m : Mark} {r : Refusal} (p : Parser) (K : List Sym) → Missed m p r → (isMark m (next p) ≡ false → (s : Listing) → step list J s (next p) (p .place) ≡ stuck) → ((s : Listing) → step list J s (mark m) (p .place) ≡ go K s) → marks K ≤ 32 → Stops J U c T (ahead p) r
+pub misses : {J : List Sym} {U : List ℕ} {c : ℕ} {T : List Entry} {m : Symbol} {r : Refusal} (p : Parser) (K : List Sym) → Missed m p r → (isMark m (next p) ≡ false → (s : Listing) → step list J s (next p) (p .place) ≡ stuck) → ((s : Listing) → step list J s (mark m) (p .place) ≡ go K s) → marks K ≤ 32 → Stops J U c T (ahead p) r
 misses p K (another h i) n e k = refused-here p (n h) i
 misses {m} {r} p K (cut b) n e k = cuts-off p (mark m) r K (λ s. s) b e k refl
 
-pub misses-mark : {K : List Sym} {U : List ℕ} {c : ℕ} {T : List Entry} {r : Refusal} (m : Mark) (p : Parser) → Missed m p r → ((s : Listing) → step list (is m ∷ K) s (mark m) (p .place) ≡ go K s) → marks K ≤ 32 → Stops (is m ∷ K) U c T (ahead p) r
+pub misses-mark : {K : List Sym} {U : List ℕ} {c : ℕ} {T : List Entry} {r : Refusal} (m : Symbol) (p : Parser) → Missed m p r → ((s : Listing) → step list (is m ∷ K) s (mark m) (p .place) ≡ go K s) → marks K ≤ 32 → Stops (is m ∷ K) U c T (ahead p) r
 misses-mark {K} m p x e k = misses p K x (λ h s. not-mark m (next p) (go K s) stuck h) e k
 
-pub misses-open : {K : List Sym} {U : List ℕ} {c : ℕ} {T : List Entry} {r : Refusal} (p : Parser) → Closed p r → marks K ≤ 32 → Stops (isOpen ∷ K) U c T (ahead p) r
-misses-open {K} p (step.another h i) k = refused-here p (λ s. not-open (next p) (go K s) h) i
-misses-open {K} {r} p (step.cut b) k = cuts-off p (pre Open) r K (λ s. s) b (λ s. refl) k refl
+-- the next token by the parser's own
+pub reads-as : (p q : Parser) (t : Tok) → meant (p .token) ≡ other t → Read p (next p) q → Read p t q
+reads-as p q t e r = subst (λ x. Read p x q) (ap (tok (knownOf (p .names))) e) r
 
--- a name is missing, one too many, or what follows it is refused
-pub misses-name : {J : List Sym} {U : List ℕ} {c : ℕ} {T : List Entry} {r : Refusal} (p : Parser) (K : ℕ → List Sym) (s′ : ℕ → Listing → Listing) → Nameless p r → (isName (next p) ≡ false → (s : Listing) → step list J s (next p) (p .place) ≡ stuck) → ((n : ℕ) (s : Listing) → step list J s (name n) (p .place) ≡ go (K n) (s′ n s)) → ((n : ℕ) → marks (K n) ≤ 32) → Stops J U c T (ahead p) r
-misses-name p K s′ (step.another h i) n e k = refused-here p (n h) i
-misses-name {J} {U} {c} {T} p K s′ (many m h f i j) n e k = subst (λ x. Stops J U c T (ahead p) x) (sym j) (stop-feed i (too-many (K m) (s′ m) (e m) (k m) h))
-misses-name {r} p K s′ (step.cut m h b) n e k = cuts-off p (name m) r (K m) (s′ m) b (e m) (k m) (lt-ltb m 64 h)
+pub no-else : (k : Known) (t : Token) → (t ≡ Else → ⊥) → isElse (tok k (meant t)) ≡ false
+no-else k (Name w) h = refl
+no-else k (Number w) h = refl
+no-else k (Truth b) h = refl
+no-else k (Operator o) h = refl
+no-else k (Prefix x) h = refl
+no-else k (Start x) h = refl
+no-else k Else h = absurd (h refl)
+no-else k (TypeName y) h = refl
+no-else k (Mark x) h = refl
+no-else k Unused h = refl
+
+pub no-name : (k : Known) (t : Token) → ((w : RefT (List ℕ)) → t ≡ Name w → ⊥) → isName (tok k (meant t)) ≡ false
+no-name k (Name w) h = absurd (h w refl)
+no-name k (Number w) h = refl
+no-name k (Truth b) h = refl
+no-name k (Operator o) h = refl
+no-name k (Prefix x) h = refl
+no-name k (Start x) h = refl
+no-name k Else h = refl
+no-name k (TypeName y) h = refl
+no-name k (Mark x) h = refl
+no-name k Unused h = refl
+
+pub no-command : (k : Known) (t : Token) → ((w : RefT (List ℕ)) → t ≡ Name w → ⊥) → ((x : Opener) → t ≡ Start x → ⊥) → isCmd (tok k (meant t)) ≡ false
+no-command k (Name w) h i = absurd (h w refl)
+no-command k (Number w) h i = refl
+no-command k (Truth b) h i = refl
+no-command k (Operator o) h i = refl
+no-command k (Prefix x) h i = refl
+no-command k (Start x) h i = absurd (i x refl)
+no-command k Else h i = refl
+no-command k (TypeName y) h i = refl
+no-command k (Mark x) h i = refl
+no-command k Unused h i = refl

@@ -1,61 +1,60 @@
 -- Declarations and the whole text, exit by exit.
-use mathlib.Core.Bool.{Bool, true, false, cond}
+use mathlib.Core.Bool.{true, false}
 use mathlib.Core.Path.{_≡_, refl, sym, ap, subst, _∙_}
 use mathlib.Core.List.{List, [], _∷_, _++_}
-use Prim.Native.Nat.{ℕ, zero, suc, _+_, _-_, _*_, _≤_, _<_}
+use Prim.Native.Nat.{ℕ, suc, _+_, _-_, _*_, _≤_}
 use native.Mathlib.Omega.{arith}
 use lib.ListN.{length}
-use borrow.Author.Tests.{lt-ltb}
 use Rattle.std.specs.declared.result.Result.{Result}
 use Rattle.std.specs.declared.result.Result.the-variants.{Ok, Err}
 use Rattle.tosca.specs.declared.operators.SimpleType.{SimpleType}
 use Rattle.tosca.specs.declared.operators.SimpleType.the-variants.{Integer}
 use Rattle.tosca.specs.declared.table.Entry.{Entry}
-use Rattle.tosca.specs.declared.table.Node.the-variants as node
-use Rattle.grammar.specs.declared.symbols.Mark.the-variants.{Var, Semicolon, Period, Stop, Program}
+use Rattle.grammar.specs.declared.symbols.Mark.the-variants.{Var, Semicolon}
 use Rattle.grammar.specs.declared.symbols.Start.the-variants as begins
 use Rattle.grammar.specs.declared.symbols.Start.the-variants.{Begin}
-use Rattle.grammar.specs.Tokens.{Tok, name, lit, op, pre, start, else′, unused, ty, mark, same}
-use Rattle.grammar.specs.Building.{Named, typed, declares, aProgram}
-use Rattle.grammar.specs.Automaton.{Sym, cmd, cmds, leave, is, does, text, title, vars, decls, aName, names, type, body, marks, step, atMark, atBegin, atName, atType, Move, stuck, go}
+use Rattle.grammar.specs.Tokens.{Tok, name, lit, op, pre, start, else′, unused, ty, mark}
+use Rattle.grammar.specs.Building.{Named, typed, declares}
+use Rattle.grammar.specs.Automaton.{Sym, is, does, text, vars, decls, aName, names, type, body, marks, step, atBegin, atType, Move, stuck, go}
 use Rattle.grammar.specs.Listing.{Listing, listing, list, laid}
-use Rattle.grammar.specs.Limits.{few}
 use Rattle.lexer.specs.declared.token.Refusal.{Refusal}
 use Rattle.reader.specs.declared.parser.Parser.{Parser}
-use Rattle.reader.specs.Feeds.{Feed, ahead, next, unread, Ready}
-use Rattle.reader.specs.Advancing.{isMark, isName, Read, Broken, Missed, Expected, Nameless, Listed}
-use Rattle.reader.specs.Parsing.{Holds, reading, refusal, Goes, Stops, Takes}
+use Rattle.reader.specs.Feeds.{ahead, next, unread, Ready}
+use Rattle.reader.specs.Advancing.{isMark, isName, Read, Broken, Expected}
+use Rattle.reader.specs.Parsing.{Holds, reading, Goes, Stops}
 use Rattle.reader.specs.Declaring.{Used, Passes, Drafted, Drafts, drafts, retyped, isType, Untyped, isBegin, Unbegun, Begun, another, cut}
-use Rattle.reader.proofs.Chains.{chain, chain-stop, takes, lists, leaves}
-use Rattle.reader.proofs.CommandSteps.{clash, reads-on, turns, refused-here, cuts-off, misses, misses-mark, not-mark, is-mark, mark-few, not-name}
+use Rattle.reader.proofs.Chains.{chain, chain-stop, moves, takes}
+use Rattle.reader.proofs.CommandSteps.{clash, reads-on, turns, refused-here, cuts-off, misses-mark, not-mark, is-mark, mark-few, not-name}
 use Rattle.reader.proofs.DeclarNames.{shallow, retype-holds, declares-drafts}
+
+not-type : (t : Tok) (g : SimpleType → Move Listing) → isType t ≡ false → atType list t g ≡ stuck
+not-type (ty y) g h = clash h
+not-type (name n) g h = refl
+not-type (mark x) g h = refl
+not-type (lit l) g h = refl
+not-type (op o) g h = refl
+not-type (pre x) g h = refl
+not-type (start x) g h = refl
+not-type else′ g h = refl
+not-type unused g h = refl
 
 -- the type of drafted names is read, and they are listed
 module _ (P A : Parser) (T T₁ : List Entry) (ns : List Named) (f : Drafted aName type P T ns A T₁) where
   typing : (B : Parser) (T₂ : List Entry) (y : SimpleType) → Read A (ty y) B → T₂ ≡ retyped y (P .count) (B .count - P .count) T₁ → (L : List Sym) → marks L ≡ 0 → Goes (aName [] ∷ L) [] (P .count) T (ahead P) (is Semicolon ∷ decls ∷ L) [] (B .count) T₂ (ahead B)
-  typing B T₂ y a e L m = record { goes = λ V was es h. (
+  typing B T₂ y a e L m = record {
+    goes = λ V was es h. (
       es ++ drafts y ns,
       retype-holds y (P .count) (B .count) T₁ T₂ was es ns (h .0) (subst (λ c. Holds was (es ++ drafts Integer ns) c T₁) (sym (a .count)) (f .holds was es h)) e,
       f .reads [] L m (listing V es)
-      ∙ ap (reading (type ns ∷ L) (listing V es)) (a .token)
-      ∙ takes (type ns ∷ L) (is Semicolon ∷ decls ∷ L) (listing V es) (declares list (typed y ns) (listing V es)) (ty y) (A .place) (ahead B) refl (shallow m) refl
-      ∙ ap (λ s. reading (is Semicolon ∷ decls ∷ L) s (ahead B)) (declares-drafts y ns V es)
-    ) }
+          ∙ ap (reading (type ns ∷ L) (listing V es)) (a .token)
+          ∙ takes (type ns ∷ L) (is Semicolon ∷ decls ∷ L) (listing V es) (declares list (typed y ns) (listing V es)) (ty y) (A .place) (ahead B) refl (shallow m) refl
+          ∙ ap (λ s. reading (is Semicolon ∷ decls ∷ L) s (ahead B)) (declares-drafts y ns V es),
+    );
+  }
 
   pub declared : {X : Type 0} (B C : Parser) (T₂ : List Entry) (y : SimpleType) (r : Result X Refusal) → Read A (ty y) B → T₂ ≡ retyped y (P .count) (B .count - P .count) T₁ → Expected Semicolon B C r → Passes (λ L. aName [] ∷ L) (λ L. decls ∷ L) P T C T₂ r
   declared B C T₂ y (Ok u) a e x = λ L m. chain (typing B T₂ y a e L m) (reads-on x (λ s. refl) (shallow m) refl)
   declared B C T₂ y (Err w) a e x = λ L m. chain-stop (typing B T₂ y a e L m) (misses-mark Semicolon B x (λ s. refl) (shallow m))
-
-  not-type : (t : Tok) (g : SimpleType → Move Listing) → isType t ≡ false → atType list t g ≡ stuck
-  not-type (ty y) g h = clash h
-  not-type (name n) g h = refl
-  not-type (mark x) g h = refl
-  not-type (lit l) g h = refl
-  not-type (op o) g h = refl
-  not-type (pre x) g h = refl
-  not-type (start x) g h = refl
-  not-type else′ g h = refl
-  not-type unused g h = refl
 
   no-type : {L : List Sym} {w : Refusal} → Untyped A w → marks L ≡ 0 → (c : ℕ) (U : List Entry) → Stops (type ns ∷ L) [] c U (ahead A) w
   no-type {L} (another h i) m c U = refused-here A (λ s. not-type (next A) (λ y. go (is Semicolon ∷ decls ∷ L) (declares list (typed y ns) s)) h) i
@@ -86,13 +85,13 @@ not-begin (ty y) a h = refl
 deep : {n : ℕ} → n ≡ 0 → suc n ≤ 32
 deep m = omega (arith, m)
 
-begins-body : {J L : List Sym} {T : List Entry} (Q R : Parser) (e : Refusal) → Unbegun Q e → (isBegin (next Q) ≡ false → (s : Listing) → step list J s (next Q) (Q .place) ≡ stuck) → ((s : Listing) → step list J s (start Begin) (Q .place) ≡ go (body L) s) → marks L ≡ 0 → Stops J [] (Q .count) T (ahead Q) e
-begins-body {L} Q R e (another h i) n g m = refused-here Q (n h) i
-begins-body {L} Q R e (cut b) n g m = cuts-off Q (start Begin) e (body L) (λ s. s) b g (deep m) refl
+no-begin : {J L : List Sym} {T : List Entry} (Q : Parser) (e : Refusal) → Unbegun Q e → (isBegin (next Q) ≡ false → (s : Listing) → step list J s (next Q) (Q .place) ≡ stuck) → ((s : Listing) → step list J s (start Begin) (Q .place) ≡ go (body L) s) → marks L ≡ 0 → Stops J [] (Q .count) T (ahead Q) e
+no-begin {L} Q e (another h i) n g m = refused-here Q (n h) i
+no-begin {L} Q e (cut b) n g m = cuts-off Q (start Begin) e (body L) (λ s. s) b g (deep m) refl
 
 pub no-vars : {X : Type 0} (P Q : Parser) (T : List Entry) (r : Result X Refusal) → isMark Var (next P) ≡ false → Begun P Q r → Passes (λ L. vars ∷ L) body P T Q T r
 no-vars P Q T (Ok u) h x = λ L m. reads-on x (λ s. refl) (deep m) refl
-no-vars P Q T (Err w) h x = λ L m. begins-body P Q w x (λ i s. not-mark Var (next P) (go (aName [] ∷ L) s) (atBegin list (next P) (go (body L) s)) h ∙ not-begin (next P) (go (body L) s) i) (λ s. refl) m
+no-vars P Q T (Err w) h x = λ L m. no-begin P w x (λ i s. not-mark Var (next P) (go (aName [] ∷ L) s) (atBegin list (next P) (go (body L) s)) h ∙ not-begin (next P) (go (body L) s) i) (λ s. refl) m
 
 var : (P : Parser) (L : List Sym) (s : Listing) → isMark Var (next P) ≡ true → step list (vars ∷ L) s (next P) (P .place) ≡ go (aName [] ∷ L) s
 var P L s h = is-mark Var (next P) (go (aName [] ∷ L) s) (atBegin list (next P) (go (body L) s)) h
@@ -110,6 +109,9 @@ pub record Declaring (P : Parser) (T : List Entry) (Q : Parser) (T′ : List Ent
   pub fewer : unread Q ≤ unread P
   pub room : Q .count + 2 * unread Q ≤ P .count + 2 * unread P
   pub is : (L : List Sym) → marks L ≡ 0 → Goes (decls ∷ L) [] (P .count) T (ahead P) (decls ∷ L) [] (Q .count) T′ (ahead Q)
+
+pub declaring : (P : Parser) (T : List Entry) → Ready P → Declaring P T P T
+declaring P T h = record { ready = h; fewer = omega arith; room = omega arith; is = λ L m. moves (λ s. refl) }
 
 one-more : (L : List Sym) (s : Listing) (t : Tok) (p : ℕ) → isName t ≡ true → step list (decls ∷ L) s t p ≡ step list (aName [] ∷ L) s t p
 one-more L s (name n) p h = refl
@@ -136,7 +138,4 @@ module _ {X : Type 0} (O P Q : Parser) (S T T₁ : List Entry) (u : X) (f : Pass
 
   pub list-end : (R : Parser) (r : Result X Refusal) → isName (next Q) ≡ false → Begun Q R r → Passes (λ L. aName [] ∷ L) body O S R T₁ r
   list-end R (Ok v) h x = λ L m. chain (f L m) (chain (k .is L m) (reads-on x (λ s. refl) (deep m) refl))
-  list-end R (Err w) h x = λ L m. chain-stop (f L m) (chain-stop (k .is L m) (begins-body Q R w x (λ i s. not-name (next Q) (λ n. go (names (record { name = n; place = Q .place } ∷ []) ∷ L) s) (atBegin list (next Q) (go (body L) s)) h ∙ not-begin (next Q) (go (body L) s) i) (λ s. refl) m))
-
-pub first-wrong : (P Q R : Parser) (T T₁ T′ : List Entry) (w : Refusal) → Passes {A = Unit {0}} (λ L. aName [] ∷ L) (λ L. decls ∷ L) P T Q T₁ (Err w) → Passes {A = Unit {0}} (λ L. aName [] ∷ L) body P T R T′ (Err w)
-first-wrong P Q R T T₁ T′ w x = λ L m. x L m
+  list-end R (Err w) h x = λ L m. chain-stop (f L m) (chain-stop (k .is L m) (no-begin Q w x (λ i s. not-name (next Q) (λ n. go (names (record { name = n; place = Q .place } ∷ []) ∷ L) s) (atBegin list (next Q) (go (body L) s)) h ∙ not-begin (next Q) (go (body L) s) i) (λ s. refl) m))

@@ -1,20 +1,23 @@
 -- Declared names, which the table has before the automaton lists them.
-use mathlib.Core.Bool.{Bool, true, false, cond}
+use mathlib.Core.Bool.{Bool, true, false}
 use mathlib.Core.Path.{_≡_, refl, sym, ap, subst, _∙_}
 use mathlib.Core.List.{List, [], _∷_, _++_}
 use Prim.Native.Nat.{ℕ, zero, suc, _+_, _-_, _*_, _≤_, _<_}
 use native.Mathlib.Omega.{arith}
 use lib.ListN.{length, set, getD, length-append}
-use borrow.Author.Tests.{lt-ltb}
+use lib.Dec.{leb}
+use borrow.Author.Tests.{lt-ltb, leb-true, leb-false}
 use Rattle.std.specs.declared.result.Result.{Result}
 use Rattle.std.specs.declared.result.Result.the-variants.{Ok, Err}
 use Rattle.tosca.specs.declared.operators.SimpleType.{SimpleType}
 use Rattle.tosca.specs.declared.operators.SimpleType.the-variants.{Integer}
 use Rattle.tosca.specs.declared.table.Entry.{Entry}
+use Rattle.tosca.specs.declared.table.Node.{Node}
 use Rattle.tosca.specs.declared.table.Node.the-variants.{Decl}
-use Rattle.tosca.specs.Table.{entry}
+use Rattle.tosca.specs.Table.{entry, blank}
+use Rattle.grammar.specs.declared.symbols.Mark.{Mark as Symbol}
 use Rattle.grammar.specs.declared.symbols.Mark.the-variants.{Comma, Colon}
-use Rattle.grammar.specs.Tokens.{Tok, name, ty, mark}
+use Rattle.grammar.specs.Tokens.{Tok, name, mark}
 use Rattle.grammar.specs.Building.{Named, typed, declares}
 use Rattle.grammar.specs.Automaton.{Sym, aName, names, type, marks, step, atMark, stuck, go}
 use Rattle.grammar.specs.Listing.{Listing, listing, list, laid}
@@ -22,9 +25,9 @@ use Rattle.grammar.specs.Limits.{few}
 use Rattle.lexer.specs.declared.token.Refusal.{Refusal}
 use Rattle.reader.specs.declared.parser.Parser.{Parser}
 use Rattle.reader.specs.Feeds.{Feed, ahead, next, unread, Ready}
-use Rattle.reader.specs.Advancing.{isMark, Read, Broken, Missed, Expected, Listed}
-use Rattle.reader.specs.Parsing.{Holds, reading, refusal, Goes, Stops}
-use Rattle.reader.specs.Declaring.{Used, Drafted, Drafts, drafts, retyped, retypedEntry}
+use Rattle.reader.specs.Advancing.{isMark, Read, Broken, Expected, Listed}
+use Rattle.reader.specs.Parsing.{Holds, reading, refusal, Stops}
+use Rattle.reader.specs.Declaring.{Used, Begun, Drafted, Drafts, drafts, retyped, retypedEntry}
 use Rattle.reader.proofs.Chains.{takes, holds-more}
 use Rattle.reader.proofs.CommandSteps.{is-mark, mark-few, not-mark, cuts-off, misses}
 
@@ -80,18 +83,42 @@ drafted-stop {ns} w a b ms L m s = a .reads ms L m s ∙ b (ms ++ ns) L m s
 -- a name is listed
 pub one-name : {A : Type 0} (P B Q : Parser) (T T′ : List Entry) (x r : ℕ) (u : A) → x < 64 → Read P (name x) B → Listed B T (Decl x Integer) (P .place) r Q T′ → Drafts aName names P T Q T′ (Ok u)
 one-name P B Q T T′ x r u h a l =
-    let n : Named = record { name = x; place = P .place } in
-    (n ∷ [], record {
-      reads = λ ms L m s.
-          ap (reading (aName ms ∷ L) s) (a .token)
-          ∙ takes (aName ms ∷ L) (names (ms ++ (n ∷ [])) ∷ L) s s (name x) (P .place) (ahead B) refl (shallow m) (lt-ltb x 64 h)
-          ∙ ap (reading (names (ms ++ (n ∷ [])) ∷ L) s) (sym (l .same));
-      holds = λ was es h.
-          let old = subst (λ c. Holds was es c T) (sym (a .count)) h in
-          let new = holds-more was es (B .count) T (entry (Decl x Integer) (P .place)) old in
-          let counted = subst (λ c. Holds was (es ++ (entry (Decl x Integer) (P .place) ∷ [])) c (set T (B .count) (entry (Decl x Integer) (P .place)))) (sym (l .count)) new in
-          subst (λ t. Holds was (es ++ (entry (Decl x Integer) (P .place) ∷ [])) (Q .count) t) (sym (l .wrote)) counted;
-    })
+    let n : Named = record { name = x; place = P .place } in (
+      n ∷ [],
+      record {
+        reads = λ ms L m s.
+            ap (reading (aName ms ∷ L) s) (a .token)
+            ∙ takes (aName ms ∷ L) (names (ms ++ (n ∷ [])) ∷ L) s s (name x) (P .place) (ahead B) refl (shallow m) (lt-ltb x 64 h)
+            ∙ ap (reading (names (ms ++ (n ∷ [])) ∷ L) s) (sym (l .same));
+        holds = λ was es h.
+            let old = subst (λ c. Holds was es c T) (sym (a .count)) h in
+            let new = holds-more was es (B .count) T (entry (Decl x Integer) (P .place)) old in
+            let counted = subst (λ c. Holds was (es ++ (entry (Decl x Integer) (P .place) ∷ [])) c (set T (B .count) (entry (Decl x Integer) (P .place)))) (sym (l .count)) new in
+            subst (λ t. Holds was (es ++ (entry (Decl x Integer) (P .place) ∷ [])) (Q .count) t) (sym (l .wrote)) counted;
+      },
+    )
+
+pub less-named : {X : Type 0} (P B Q : Parser) (t : Tok) (T T′ : List Entry) (n : Node) (place r : ℕ) (u : X) → Ready P → Read P t B → Listed B T n place r Q T′ → Used P Q (Ok u)
+less-named P B Q t T T′ n place r u h a l =
+    let same : unread Q ≡ unread B = ap (λ f. length (f .tokens)) (l .same) in
+    (l .ready (a .ready) (omega (arith, same, l .count, a .one, a .count, h .room)), omega (arith, same, a .one), omega (arith, same, l .count, a .one, a .count))
+
+-- tokens that are used up, one after another
+pub used-mark : {X : Type 0} (m : Symbol) (P Q : Parser) (r : Result X Refusal) → Expected m P Q r → Used P Q r
+used-mark m P Q (Ok u) a = (a .ready, omega (arith, a .one), omega (arith, a .one, a .count))
+used-mark m P Q (Err w) a = tt
+
+pub used-begin : {X : Type 0} (P Q : Parser) (r : Result X Refusal) → Begun P Q r → Used P Q r
+used-begin P Q (Ok u) a = (a .ready, omega (arith, a .one), omega (arith, a .one, a .count))
+used-begin P Q (Err w) a = tt
+
+pub used-after : {X : Type 0} (P A Q : Parser) (t : Tok) (r : Result X Refusal) → Read P t A → Used A Q r → Used P Q r
+used-after P A Q t (Ok u) a l = (l .0, omega (arith, a .one, l .1), omega (arith, a .one, a .count, l .2))
+used-after P A Q t (Err w) a l = tt
+
+pub used-both : {X Y : Type 0} (O P Q R : Parser) (u : Y) (r : Result X Refusal) → Used {A = Y} O P (Ok u) → unread Q ≤ unread P → Q .count + 2 * unread Q ≤ P .count + 2 * unread P → Used Q R r → Used O R r
+used-both O P Q R u (Ok v) k a b l = (l .0, omega (arith, k .1, a, l .1), omega (arith, k .2, b, l .2))
+used-both O P Q R u (Err w) k a b l = tt
 
 -- {, name}: what the loop keeps
 pub record Naming (P : Parser) (T : List Entry) (Q : Parser) (T′ : List Entry) : Type 0 where
@@ -99,6 +126,9 @@ pub record Naming (P : Parser) (T : List Entry) (Q : Parser) (T′ : List Entry)
   pub fewer : unread Q ≤ unread P
   pub room : Q .count + 2 * unread Q ≤ P .count + 2 * unread P
   pub is : (ns : List Named) × Drafted names names P T ns Q T′
+
+pub naming : (P : Parser) (T : List Entry) → Ready P → Naming P T P T
+naming P T h = record { ready = h; fewer = omega arith; room = omega arith; is = ([], nothing-drafted P T) }
 
 comma : (P : Parser) → isMark Comma (next P) ≡ true → (ms : List Named) (L : List Sym) (s : Listing) → step list (names ms ∷ L) s (next P) (P .place) ≡ go (aName ms ∷ L) s
 comma P h ms L s = is-mark Comma (next P) (go (aName ms ∷ L) s) (atMark list Colon (next P) (go (type ms ∷ L) s) stuck) h
@@ -138,6 +168,35 @@ retype-next y zero (suc k) zero (e ∷ t) z h = absurd (omega (arith, h))
 retype-next y zero (suc k) (suc j) (e ∷ t) z h = ap (λ x. retypedEntry y e ∷ x) (retype-next y zero k j t z (omega (arith, h)))
 retype-next y (suc a) k zero (e ∷ t) z h = absurd (omega (arith, h))
 retype-next y (suc a) k (suc j) (e ∷ t) z h = ap (λ x. e ∷ x) (retype-next y a k j t z (omega (arith, h)))
+
+set-out : (l : List Entry) (i : ℕ) (e : Entry) → length l ≤ i → set l i e ≡ l
+set-out [] i e h = refl
+set-out (x ∷ l) zero e h = absurd (omega (arith, h))
+set-out (x ∷ l) (suc i) e h = ap (λ t. x ∷ t) (set-out l i e (omega (arith, h)))
+
+retyped-zero : (y : SimpleType) (a : ℕ) (T : List Entry) → retyped y a zero T ≡ T
+retyped-zero y a [] = refl
+retyped-zero y zero (e ∷ t) = refl
+retyped-zero y (suc a) (e ∷ t) = ap (λ x. e ∷ x) (retyped-zero y a t)
+
+pub retype-starts : (y : SimpleType) (a : ℕ) (T : List Entry) → T ≡ retyped y a (a - a) T
+retype-starts y a T = let z : a - a ≡ 0 = omega arith in sym (ap (λ n. retyped y a n T) z ∙ retyped-zero y a T)
+
+pub retype-one : (y : SimpleType) (a n : ℕ) (S T X : List Entry) (z : Entry) → a ≤ n → T ≡ retyped y a (n - a) S → X ≡ set T n (retypedEntry y (getD T n z)) → X ≡ retyped y a ((n + 1) - a) S
+retype-one y a n S T X z h e i =
+    let k : suc (n - a) ≡ (n + 1) - a = omega (arith, h) in
+    let j : n ≡ a + (n - a) = omega (arith, h) in
+    i ∙ ap (λ t. set t n (retypedEntry y (getD t n z))) e ∙ retype-next y a (n - a) n S z j ∙ ap (λ m. retyped y a m S) k
+
+pub retype-out : (y : SimpleType) (a n : ℕ) (S T X : List Entry) → a ≤ n → T ≡ retyped y a (n - a) S → length T ≤ n → X ≡ T → X ≡ retyped y a ((n + 1) - a) S
+retype-out y a n S T X h e k i = retype-one y a n S T X blank h e (i ∙ sym (set-out T n (retypedEntry y (getD T n blank)) k))
+
+pub retype-ends : (y : SimpleType) (a b n : ℕ) (S T : List Entry) → (a ≤ b → n ≤ b) → (b ≤ a → n ≤ a) → b ≤ n → T ≡ retyped y a (n - a) S → T ≡ retyped y a (b - a) S
+retype-ends y a b n S T up none h e = e ∙ ap (λ m. retyped y a m S) (whole (leb a b) refl)
+  where
+    whole : (c : Bool) → leb a b ≡ c → n - a ≡ b - a
+    whole true x = let k = up (leb-true a b x) in omega (arith, k, h)
+    whole false x = let l = leb-false a b x in let k = none (omega (arith, l)) in omega (arith, k, l)
 
 pub retype-laid : (y : SimpleType) (es was : List Entry) (ns : List Named) → retyped y (length es) (length ns) (laid (es ++ drafts Integer ns) was) ≡ laid (es ++ drafts y ns) was
 retype-laid y [] [] [] = refl

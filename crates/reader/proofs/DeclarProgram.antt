@@ -1,17 +1,17 @@
 -- The whole text, exit by exit.
 use mathlib.Core.Bool.{true, false, cond}
 use mathlib.Core.Path.{_≡_, refl, sym, ap, _∙_}
-use mathlib.Core.List.{List, [], _∷_, _++_}
-use Prim.Native.Nat.{ℕ, suc, _+_, _≤_, _<_}
+use mathlib.Core.List.{List, [], _∷_}
+use Prim.Native.Nat.{ℕ, _<_}
 use native.Mathlib.Omega.{arith}
 use borrow.Author.Tests.{lt-ltb}
 use Rattle.std.specs.declared.result.Result.the-variants.{Ok, Err}
 use Rattle.tosca.specs.declared.table.Entry.{Entry}
 use Rattle.tosca.specs.declared.table.Node.the-variants as node
 use Rattle.grammar.specs.declared.symbols.Mark.the-variants.{Semicolon, Period, Stop, Program}
-use Rattle.grammar.specs.Tokens.{Tok, name, lit, op, pre, start, else′, unused, ty, mark, same}
+use Rattle.grammar.specs.Tokens.{name, lit, op, pre, start, else′, unused, ty, mark}
 use Rattle.grammar.specs.Building.{aProgram}
-use Rattle.grammar.specs.Automaton.{Sym, cmd, cmds, leave, is, does, text, title, vars, body, marks, stuck, go}
+use Rattle.grammar.specs.Automaton.{Sym, cmd, cmds, leave, is, does, text, vars, body, stuck, go}
 use Rattle.grammar.specs.Listing.{Listing, listing}
 use Rattle.grammar.specs.Limits.{accepted}
 use Rattle.lexer.specs.declared.token.Refusal.{Refusal}

@@ -26,11 +26,13 @@ impl<'a> Parser<'a> {
     {
         match self.token {
             Token::Name(_) => self.assignment(table, depth),
-            Token::Start(Start::Begin) => self.block(table, depth),
-            Token::Start(Start::If) => self.choice(table, depth),
-            Token::Start(Start::While) => self.repetition(table, depth),
-            Token::Start(Start::Read) => self.input(table),
-            Token::Start(Start::Write) => self.output(table, depth),
+            Token::Start(start) => match start {
+                Start::Begin => self.block(table, depth),
+                Start::If => self.choice(table, depth),
+                Start::While => self.repetition(table, depth),
+                Start::Read => self.input(table),
+                Start::Write => self.output(table, depth),
+            },
             _ => {
                 let place = self.place;
                 Ok(self.emit(table, Node::Skip, place))

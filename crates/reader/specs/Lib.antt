@@ -1,6 +1,2 @@
-pub mod Feeds
-pub mod Numbering
-pub mod Advancing
-pub mod Fetching
-pub mod Parsing
-pub mod Declaring
+pub mod Reading
+pub mod Reasons

@@ -1,2 +1,0 @@
-pub mod Explaining
-pub mod Outcomes

@@ -1,2 +1,0 @@
-// Reading a text into a node table.
-pub mod reading;

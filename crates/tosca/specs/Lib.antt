@@ -3,3 +3,7 @@ pub mod Trees
 pub mod Table
 pub mod Decode
 pub mod Opens
+pub mod Text
+pub mod ArithmeticLaws
+pub mod TableLaws
+pub mod DecodeLaws

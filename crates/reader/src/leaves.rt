@@ -1,0 +1,65 @@
+// Factors that are one token, and the bracket that opens the operands of round, read and write.
+ghost use mathlib.Core.Path.{_≡_};
+ghost use mathlib.Core.Bool.{true, false};
+ghost use Prim.Native.Nat.{ℕ, _+_, _*_, _<_, _≤_};
+ghost use lib.IntN.{pos};
+ghost use Rattle.grammar.specs.Automaton.{factor};
+ghost use Rattle.grammar.specs.Tokens.{lit, name};
+ghost use Rattle.lexer.specs.Lexemes.{meant};
+ghost use Rattle.lexer.specs.Lexemes.{number as digitsOf};
+ghost use Rattle.lexer.specs.Scan.{limit};
+ghost use Rattle.lexer.specs.Spelling.{value as valueOf};
+ghost use Rattle.reader.specs.Feeds.{ahead, next, unread, Ready};
+ghost use Rattle.reader.specs.Advancing.{plain, isName, Opened};
+ghost use Rattle.reader.specs.Parsing.{Parsed, Less};
+use crate::parser::Parser;
+use grammar::symbols::Prefix;
+use lexer::token::Question;
+use lexer::token::Refusal;
+use lexer::token::Token;
+use tosca::operators::Value;
+use tosca::table::Entry;
+use tosca::table::Node;
+
+// The value of digits that keep the limit.
+pub fn number(digits: &[u8]) -> i32
+    requires { ⌜ limit (digitsOf (now digits)) ≡ 0 ⌝ }
+    ensures { λ r. ⌜ r ≡ pos (valueOf (now (digits .entry))) ⌝ }
+{
+    0
+}
+
+impl<'a> Parser<'a> {
+    // Reads an opening bracket, which alone may stand here.
+    pub fn open(&mut self) -> Result<(), Refusal>
+        requires { ⌜ Ready (now self) ⌝ }
+        ensures { λ r. ⌜ Opened (now (self .entry)) (now (self .exit)) r ⌝ }
+    {
+        match self.token {
+            Token::Prefix(Prefix::Open) => self.advance(),
+            _ => Err(self.refuse(Question::Grammar)),
+        }
+    }
+
+    // A constant, which is the next token.
+    pub fn constant(&mut self, table: &mut [Entry], value: Value) -> Result<u16, Refusal>
+        requires { ⌜ Ready (now self) ⌝ ∗ ⌜ next (now self) ≡ lit value ⌝ ∗ ⌜ plain (meant (now self .token)) ≡ true ⌝ }
+        ensures less { λ r. ⌜ Less 0 (now (self .entry)) (now (self .exit)) r ⌝ }
+        ensures is { λ r. ⌜ ((depth : ℕ) → depth ≤ 32 → Parsed factor depth (now (self .entry)) (now (table .entry)) (now (self .exit)) (now (table .exit)) r) ⌝ }
+    {
+        let place = self.place;
+        self.advance()?;
+        Ok(self.emit(table, Node::Const(value), place))
+    }
+
+    // A variable, whose name is the next token.
+    pub fn variable(&mut self, table: &mut [Entry]) -> Result<u16, Refusal>
+        requires { ⌜ Ready (now self) ⌝ ∗ ⌜ isName (next (now self)) ≡ true ⌝ }
+        ensures less { λ r. ⌜ Less 0 (now (self .entry)) (now (self .exit)) r ⌝ }
+        ensures is { λ r. ⌜ ((depth : ℕ) → depth ≤ 32 → Parsed factor depth (now (self .entry)) (now (table .entry)) (now (self .exit)) (now (table .exit)) r) ⌝ }
+    {
+        let place = self.place;
+        let name = self.name()?;
+        Ok(self.emit(table, Node::Var(name), place))
+    }
+}

@@ -1,1 +1,4 @@
 pub mod LineSteps
+pub mod Rests
+pub mod Decoded
+pub mod Digits

@@ -2,3 +2,4 @@ pub mod LineSteps
 pub mod Rests
 pub mod Decoded
 pub mod Digits
+pub mod Writing

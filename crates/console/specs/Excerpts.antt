@@ -12,3 +12,7 @@ to text k = min (lineEnd text k) (from text k + 120)
 
 abbrev pub shownLine : List ℕ → ℕ → List ℕ
 shownLine text k = take (to text k - from text k) (drop (from text k) text)
+
+-- what of it stands before the place
+abbrev pub shownBefore : List ℕ → ℕ → List ℕ
+shownBefore text k = take (k - from text k) (drop (from text k) text)

@@ -13,6 +13,10 @@ use Rattle.console.specs.declared.reason.Reason.{Reason}
 use Rattle.console.specs.declared.reason.Reason.the-variants as r
 use Rattle.console.specs.Shown.{printed}
 
+-- what is shown of a token that cannot come next
+abbrev pub quoted : List ℕ → List ℕ
+quoted w = codes "no routine can go on with this: '" ++ (w ++ codes "'")
+
 -- the sentence of a reason
 abbrev pub reasonText : Reason → List ℕ
 reasonText r.TextLength = codes "the text has more than 16,384 bytes"
@@ -21,7 +25,7 @@ reasonText r.OpenComment = codes "this comment is never closed"
 reasonText r.TouchedNumber = codes "a letter touches this number"
 reasonText r.NameLength = codes "this name has more than 16 letters and digits"
 reasonText r.NumberSize = codes "this number is above 2,147,483,647"
-reasonText (r.Token w) = codes "no routine can go on with this: '" ++ (map printed (w .now) ++ codes "'")
+reasonText (r.Token w) = quoted (map printed (w .now))
 reasonText r.End = codes "no routine can go on with this: the end of the text"
 reasonText r.Depth = codes "more than 32 openers are nested here"
 reasonText r.NameCount = codes "this is the 65th different name; at most 64 may be used"
@@ -41,7 +45,7 @@ tokenLength (b ∷ d ∷ bs) = cond (eqb b 58 && eqb d 61) 2 (max 1 (leading asc
 -- the token in front, which cannot come next
 abbrev pub notNext : List ℕ → List ℕ
 notNext [] = codes "no routine can go on with this: the end of the text"
-notNext (b ∷ bs) = codes "no routine can go on with this: '" ++ (map printed (take (tokenLength (b ∷ bs)) (b ∷ bs)) ++ codes "'")
+notNext (b ∷ bs) = quoted (map printed (take (tokenLength (b ∷ bs)) (b ∷ bs)))
 
 -- the sentence of a question with a no, by what stands at the place
 abbrev pub sentence : Question → List ℕ → List ℕ

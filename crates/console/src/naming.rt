@@ -1,6 +1,7 @@
 // Nodes as they are shown to a reader: a name is spelled, where it has a spelling.
 ghost use mathlib.Core.Path.{_≡_};
-ghost use Rattle.console.specs.Naming.{nameOf};
+ghost use Rattle.std.specs.declared.option.Option.the-variants.{Some};
+ghost use Rattle.console.specs.Naming.{nameOf, namedText};
 use crate::printable::Printable;
 use crate::printable::PrintableDisplay;
 use std::fmt::Display;
@@ -30,12 +31,14 @@ pub struct Named<'a> {
 }
 
 pub impl Display for Named<'_> as NamedDisplay {
+    ghost shown = { λ n. Some (namedText (n .node) (n .name)) };
+
     fn fmt<W: Write>(&self, f: &mut Formatter<W>) -> Result {
         let node = self.node;
         let Some(name) = self.name else {
             return write!(f, "{node}");
         };
-        let name = Printable(name);
+        let name = Printable::text(name);
         match node {
             Node::Decl(_, typ) => write!(f, "decl({name},{typ})"),
             Node::Var(_) => write!(f, "var({name})"),

@@ -2,6 +2,7 @@
 ghost use mathlib.Core.Path.{_≡_};
 ghost use Prim.Native.Nat.{_≤_};
 ghost use lib.ListN.{length, drop};
+ghost use Rattle.std.specs.declared.option.Option.the-variants.{Some};
 ghost use Rattle.std.specs.Text.{asciiAlnum};
 ghost use Rattle.std.specs.shelf.Lists.{leading};
 ghost use Rattle.console.specs.Sentences.{tokenLength, reasonText, noToken, notNext, sentence};
@@ -93,6 +94,8 @@ fn word_length(rest: &[u8]) -> usize
 }
 
 pub impl Display for Reason<'_> as ReasonDisplay {
+    ghost shown = { λ r. Some (reasonText r) };
+
     fn fmt<W: Write>(&self, f: &mut Formatter<W>) -> Result {
         match self {
             Reason::TextLength => write!(f, "the text has more than 16,384 bytes"),
@@ -102,7 +105,7 @@ pub impl Display for Reason<'_> as ReasonDisplay {
             Reason::NameLength => write!(f, "this name has more than 16 letters and digits"),
             Reason::NumberSize => write!(f, "this number is above 2,147,483,647"),
             Reason::Token(token) => {
-                let token = Printable(*token);
+                let token = Printable::text(token);
                 write!(f, "no routine can go on with this: '{token}'")
             }
             Reason::End => write!(f, "no routine can go on with this: the end of the text"),

@@ -110,7 +110,10 @@ pub impl Display for Reason<'_> as ReasonDisplay {
             }
             Reason::End => write!(f, "no routine can go on with this: the end of the text"),
             Reason::Depth => write!(f, "more than 32 openers are nested here"),
-            Reason::NameCount => write!(f, "this is the 65th different name; at most 64 may be used"),
+            Reason::NameCount => write!(
+                f,
+                "this is the 65th different name; at most 64 may be used"
+            ),
             Reason::NodeCount => write!(f, "the routine has more than 1,024 nodes"),
         }
     }

@@ -92,13 +92,15 @@ impl Session {
 
     fn read<'a>(&'a mut self, cap: usize, text: &[u8]) -> Result<Answer<'a>, AllocError> {
         self.clear(cap)?;
-        Ok(match reading::read(text, &mut self.table) {
-            Ok(count) => {
-                self.count = count;
-                Answer::Accepted(count)
-            }
-            Err(refusal) => Answer::Refused(refusal),
-        })
+        Ok(
+            match reading::read(text, &mut self.table) {
+                Ok(count) => {
+                    self.count = count;
+                    Answer::Accepted(count)
+                }
+                Err(refusal) => Answer::Refused(refusal),
+            },
+        )
     }
 
     // Makes the table one of `cap` entries, without nodes.

@@ -1,10 +1,10 @@
 // What the words of the command line ask for.
 
-pub const USAGE: &str = "usage: wisnoeur read FILE    say whether FILE is a routine, or else why not and where
+pub const USAGE: &str =
+    "usage: wisnoeur read FILE    say whether FILE is a routine, or else why not and where
        wisnoeur table FILE   print the node table of the routine in FILE
        wisnoeur batch        answer calls on standard input, one a line
-       wisnoeur help         print this
-";
+       wisnoeur help         print this";
 
 #[derive(Clone, Copy)]
 pub enum Command<'a> {

@@ -29,7 +29,7 @@ fn main(rt: LibcRuntime) -> Result<(), Failure> {
 fn run(rt: &LibcRuntime) -> Result<(), Failure> {
     let words: Vec<String> = env::args(rt)?.skip(1).collect(rt.alloc())?;
     match Command::parse(words.as_slice()) {
-        Some(Command::Help) => Ok(rt.print(USAGE)?),
+        Some(Command::Help) => Ok(rt.println(USAGE)?),
         Some(Command::Read(file)) => routine::read(rt, file),
         Some(Command::Table(file)) => routine::table(rt, file),
         Some(Command::Batch) => Ok(batch::run(rt)?),

@@ -44,10 +44,12 @@ fn read<'a>(heap: Global, cap: &str, text: &str) -> Result<Request<'a>, AllocErr
     let Some(cap) = natural(cap.as_bytes(), SHORT) else {
         return Ok(Request::Malformed);
     };
-    Ok(match bytes(heap, text)? {
-        Some(bytes) => Request::Read(cap as usize, bytes),
-        None => Request::Malformed,
-    })
+    Ok(
+        match bytes(heap, text)? {
+            Some(bytes) => Request::Read(cap as usize, bytes),
+            None => Request::Malformed,
+        },
+    )
 }
 
 // The bytes of a text; those of an empty one are written as a hyphen.
@@ -61,19 +63,22 @@ fn bytes(heap: Global, word: &str) -> Result<Option<Vec<u8>>, AllocError> {
 
 // Whether the words are a call that is not offered yet.
 fn is_unsupported(heap: Global, words: &[&str]) -> Result<bool, AllocError> {
-    Ok(match words {
-        ["open" | "check" | "pass" | "code" | "mount" | "stop" | "take" | "lists" | "cells"] => true,
-        ["start", "ring" | "register"] => true,
-        ["verdict", text] => bytes(heap, text)?.is_some(),
-        ["translate", cap] => is_short(cap),
-        ["feed", value] => integer(value.as_bytes()).is_some(),
-        ["run", grant] => natural(grant.as_bytes(), u32::MAX).is_some(),
-        ["raw", cap, count, list] => is_short(cap) && is_short(count) && is_list(list, &NODE),
-        ["rawcode", cap, count, list] => {
-            is_short(cap) && is_short(count) && is_list(list, &INSTRUCTION)
-        }
-        _ => false,
-    })
+    Ok(
+        match words {
+            ["open" | "check" | "pass" | "code" | "mount" | "stop" | "take" | "lists" | "cells"] =>
+                true,
+            ["start", "ring" | "register"] => true,
+            ["verdict", text] => bytes(heap, text)?.is_some(),
+            ["translate", cap] => is_short(cap),
+            ["feed", value] => integer(value.as_bytes()).is_some(),
+            ["run", grant] => natural(grant.as_bytes(), u32::MAX).is_some(),
+            ["raw", cap, count, list] => is_short(cap) && is_short(count) && is_list(list, &NODE),
+            ["rawcode", cap, count, list] => {
+                is_short(cap) && is_short(count) && is_list(list, &INSTRUCTION)
+            }
+            _ => false,
+        },
+    )
 }
 
 fn is_short(word: &str) -> bool {

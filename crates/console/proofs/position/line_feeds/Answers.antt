@@ -13,8 +13,8 @@ loop-b-again c =
     let xs = c .args .bytes .now in
     let i = c .loop-b .b-index in
     elim (c .if-b-eq10 .came) [
-      then-b-eq10 w ↦ (let s = feed-more xs i (c .loop-b-test .taken) (w .if-b-eq10 .taken) in omega (arith, w .n-is), omega (arith, w .n-is))
-    | else-b-eq10 w ↦ (let s = other-more xs i (c .loop-b-test .taken) (w .if-b-eq10 .left) in omega (arith, w .n-is), omega (arith, w .n-is))
+      | then-b-eq10 w ↦ (let s = feed-more xs i (c .loop-b-test .taken) (w .if-b-eq10 .taken) in omega (arith, w .n-is), omega (arith, w .n-is))
+      | else-b-eq10 w ↦ (let s = other-more xs i (c .loop-b-test .taken) (w .if-b-eq10 .left) in omega (arith, w .n-is), omega (arith, w .n-is))
     ]
 
 pub returns : need.returns

@@ -1,5 +1,5 @@
 #!/bin/bash
-# docs/ says what each refusal of read, 1 to 8, means: a line of a table that begins with the number.
+# docs/ says what each refusal of read, 1 to 8, means: a line of a table or a list that begins with the number.
 set -euo pipefail
 cd "$(dirname "$0")/../.."
 
@@ -9,8 +9,8 @@ if [ ! -d docs ]; then
 fi
 status=0
 for number in 1 2 3 4 5 6 7 8; do
-    if ! grep -rqE "^\| *$number *\|" docs; then
-        echo "docs/ has no row for refusal $number" >&2
+    if ! grep -rqE "^[|*\`[:blank:]-]*$number[^0-9]" docs; then
+        echo "docs/ has no line for refusal $number" >&2
         status=1
     fi
 done

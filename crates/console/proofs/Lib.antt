@@ -1,0 +1,5 @@
+pub mod LineSteps
+pub mod Rests
+pub mod Decoded
+pub mod Digits
+pub mod Writing

@@ -1,2 +1,2 @@
-// Reading a text into a node table.
+// The reader: from a text to its node table.
 pub mod reading;

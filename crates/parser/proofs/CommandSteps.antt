@@ -22,7 +22,7 @@ use Rattle.lexer.specs.Scan.{over, scan, isStop, limited}
 use Rattle.lexer.specs.Names.{Known, tok, learns}
 use Rattle.parser.specs.declared.parser.Parser.{Parser}
 use Rattle.parser.specs.Feeds.{Feed, more, feed, knownOf, ahead, next}
-use Rattle.parser.specs.Advancing.{isMark, isName, refuses, broken, Read, Broken, Missed, another, cut}
+use Rattle.parser.specs.Advancing.{isMark, isName, plain, refuses, broken, Read, Broken, Missed, another, cut}
 use Rattle.parser.specs.Advancing as step
 use Rattle.parser.specs.Parsing.{reading, Goes, Stops}
 use Rattle.parser.proofs.Chains.{from-feed, from-count, stop-feed, moves, takes, reads, stucks, doing}
@@ -113,17 +113,28 @@ misses-mark {K} m p x e k = misses p K x (λ h s. not-mark m (next p) (go K s) s
 pub reads-as : (p q : Parser) (t : Tok) → meant (p .token) ≡ other t → Read p (next p) q → Read p t q
 reads-as p q t e r = subst (λ x. Read p x q) (ap (tok (knownOf (p .names))) e) r
 
-pub no-else : (k : Known) (t : Token) → (t ≡ Else → ⊥) → isElse (tok k (meant t)) ≡ false
-no-else k (Name w) h = refl
-no-else k (Number w) h = refl
-no-else k (Truth b) h = refl
-no-else k (Operator o) h = refl
-no-else k (Prefix x) h = refl
-no-else k (Start x) h = refl
-no-else k Else h = absurd (h refl)
-no-else k (TypeName y) h = refl
-no-else k (Mark x) h = refl
-no-else k Unused h = refl
+pub is-else : (t : Tok) → isElse t ≡ true → t ≡ else′
+is-else else′ h = refl
+is-else (name x) h = absurd (let z : _≡_ {A = ℕ} 0 1 = cc in omega arith)
+is-else (lit x) h = absurd (let z : _≡_ {A = ℕ} 0 1 = cc in omega arith)
+is-else (op x) h = absurd (let z : _≡_ {A = ℕ} 0 1 = cc in omega arith)
+is-else (pre x) h = absurd (let z : _≡_ {A = ℕ} 0 1 = cc in omega arith)
+is-else (start x) h = absurd (let z : _≡_ {A = ℕ} 0 1 = cc in omega arith)
+is-else unused h = absurd (let z : _≡_ {A = ℕ} 0 1 = cc in omega arith)
+is-else (ty x) h = absurd (let z : _≡_ {A = ℕ} 0 1 = cc in omega arith)
+is-else (mark x) h = absurd (let z : _≡_ {A = ℕ} 0 1 = cc in omega arith)
+
+pub plain-else : (k : Known) (t : Token) → isElse (tok k (meant t)) ≡ true → plain (meant t) ≡ true
+plain-else k Else h = refl
+plain-else k (Name w) h = absurd (let z : _≡_ {A = ℕ} 0 1 = cc in omega arith)
+plain-else k (Number w) h = refl
+plain-else k (Truth b) h = refl
+plain-else k (Operator o) h = refl
+plain-else k (Prefix x) h = refl
+plain-else k (Start x) h = refl
+plain-else k (TypeName y) h = refl
+plain-else k (Mark x) h = absurd (let z : _≡_ {A = ℕ} 0 1 = cc in omega arith)
+plain-else k Unused h = refl
 
 pub no-name : (k : Known) (t : Token) → ((w : RefT (List ℕ)) → t ≡ Name w → ⊥) → isName (tok k (meant t)) ≡ false
 no-name k (Name w) h = absurd (h w refl)

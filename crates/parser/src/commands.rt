@@ -33,10 +33,7 @@ impl<'a> Parser<'a> {
                 Start::Read => self.input(table),
                 Start::Write => self.output(table, depth),
             },
-            _ => {
-                let place = self.place;
-                Ok(self.emit(table, Node::Skip, place))
-            }
+            _ => Ok(self.skip(table)),
         }
     }
 
@@ -90,16 +87,11 @@ impl<'a> Parser<'a> {
         ensures less { λ r. ⌜ Less 1 (now (self .entry)) (now (self .exit)) r ⌝ }
         ensures is { λ r. ⌜ Parsed elses depth (now (self .entry)) (now (table .entry)) (now (self .exit)) (now (table .exit)) r ⌝ }
     {
-        match self.token {
-            Token::Else => {
-                self.advance()?;
-                self.cmd(table, depth)
-            }
-            _ => {
-                let place = self.place;
-                Ok(self.emit(table, Node::Skip, place))
-            }
+        if !self.is_else() {
+            return Ok(self.skip(table));
         }
+        self.advance()?;
+        self.cmd(table, depth)
     }
 
     // while expr do cmd

@@ -50,7 +50,7 @@ impl<'a> Parser<'a> {
         while let Some(op) = self.adding() {
             let place = self.place;
             self.advance()?;
-            let right = self.term(table, depth)?;
+            let right = self.next_term(table, depth)?;
             left = self.emit(table, Node::Bin(left, op.operator(), right), place);
         }
         Ok(left)
@@ -67,8 +67,17 @@ impl<'a> Parser<'a> {
         }
         let place = self.place;
         self.advance()?;
-        let part = self.term(table, depth)?;
+        let part = self.next_term(table, depth)?;
         Ok(self.emit(table, Node::Uny(Unary::Negate, part), place))
+    }
+
+    // The term after a sign.
+    fn next_term(&mut self, table: &mut [Entry], depth: usize) -> Result<u16, Refusal>
+        requires { ⌜ Ready (now self) ⌝ ∗ ⌜ depth ≤ 32 ⌝ }
+        ensures less { λ r. ⌜ Less 0 (now (self .entry)) (now (self .exit)) r ⌝ }
+        ensures is { λ r. ⌜ Parsed term depth (now (self .entry)) (now (table .entry)) (now (self .exit)) (now (table .exit)) r ⌝ }
+    {
+        self.term(table, depth)
     }
 
     // factor {(* | div | and) factor}

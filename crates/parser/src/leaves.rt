@@ -4,13 +4,13 @@ ghost use mathlib.Core.Bool.{true, false};
 ghost use Prim.Native.Nat.{ℕ, _+_, _*_, _<_, _≤_};
 ghost use lib.IntN.{pos};
 ghost use Rattle.grammar.specs.Automaton.{factor};
-ghost use Rattle.grammar.specs.Tokens.{lit, name};
+ghost use Rattle.grammar.specs.Tokens.{lit, name, isElse};
 ghost use Rattle.lexer.specs.Lexemes.{meant};
 ghost use Rattle.lexer.specs.Lexemes.{number as digitsOf};
 ghost use Rattle.lexer.specs.Scan.{limit};
 ghost use Rattle.lexer.specs.Spelling.{value as valueOf};
 ghost use Rattle.parser.specs.Feeds.{ahead, next, unread, Ready};
-ghost use Rattle.parser.specs.Advancing.{plain, isName, isMinus, Opened};
+ghost use Rattle.parser.specs.Advancing.{plain, isName, isMinus, Listed, Opened};
 ghost use Rattle.parser.specs.Parsing.{Parsed, Less};
 use crate::parser::Parser;
 use grammar::symbols::Adding;
@@ -52,6 +52,25 @@ impl<'a> Parser<'a> {
             Token::Operator(Operator::Add(Adding::Minus)) => true,
             _ => false,
         }
+    }
+
+    // Whether the next token is `else`.
+    pub fn is_else(&self) -> bool
+        ensures { λ r. ⌜ r ≡ isElse (next (now (self .entry))) ⌝ }
+    {
+        match self.token {
+            Token::Else => true,
+            _ => false,
+        }
+    }
+
+    // The empty command, which stands at the next token.
+    pub fn skip(&mut self, table: &mut [Entry]) -> u16
+        requires { ⌜ now self .count < 65535 ⌝ ∗ ⌜ now self .place ≤ 16384 ⌝ }
+        ensures { λ r. ⌜ Listed (now (self .entry)) (now (table .entry)) Node.Skip (now (self .entry) .place) r (now (self .exit)) (now (table .exit)) ⌝ }
+    {
+        let place = self.place;
+        self.emit(table, Node::Skip, place)
     }
 
     // A constant, which is the next token.

@@ -35,6 +35,13 @@ fn read_nodes(text: &[u8], table: &mut [Entry]) -> Result<usize, Refusal>
     Ok(count)
 }
 
+// Makes every entry zeros.
+fn clear(table: &mut [Entry])
+    ensures { λ _. ⌜ now (table .exit) ≡ replicate (length (now (table .entry))) blank ⌝ }
+{
+    table.fill(BLANK);
+}
+
 // Reads a text into the table: the count of its nodes, or the first question with a no and its place, and then the table is all zeros.
 pub fn read(text: &[u8], table: &mut [Entry]) -> Result<usize, Refusal>
     ensures is { λ r. ⌜ answered r ≡ answer (outcome (length (now (table .entry))) (now (text .entry))) ⌝ }
@@ -43,11 +50,11 @@ pub fn read(text: &[u8], table: &mut [Entry]) -> Result<usize, Refusal>
     ensures complete { λ r. ⌜ Complete (length (now (table .entry))) (now (text .entry)) r ⌝ }
     ensures unique { λ r. ⌜ OneTree (now (text .entry)) ⌝ }
 {
-    table.fill(BLANK);
+    clear(table);
     match read_nodes(text, table) {
         Ok(count) => Ok(count),
         Err(refusal) => {
-            table.fill(BLANK);
+            clear(table);
             Err(refusal)
         }
     }

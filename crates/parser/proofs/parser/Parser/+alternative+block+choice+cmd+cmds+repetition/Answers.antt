@@ -1,4 +1,4 @@
-use mathlib.Core.Path.{sym, ap}
+use mathlib.Core.Path.{sym, ap, subst}
 use native.Mathlib.Omega.{arith}
 use Rattle.std.proofs.shelf.Results.{err-from-errBy}
 use Rattle.tosca.specs.declared.table.Node.the-variants.{Skip, Loop, Choice}
@@ -7,23 +7,27 @@ use Rattle.grammar.specs.declared.symbols.Start.the-variants.{Begin, If, While}
 use Rattle.grammar.specs.Tokens.{start, else′, mark}
 use Rattle.lexer.specs.Lexemes.{meant}
 use Rattle.parser.specs.Feeds.{knownOf, next}
+use Rattle.parser.specs.Advancing.{Read}
 use Rattle.parser.proofs.CommandSteps as token
 use Rattle.parser.proofs.CommandSteps.{reads-as}
 use Rattle.parser.proofs.CommandRing.{blocks, less-after, less-slack, less-looped, less-chosen, less-skipped, less-ended, choosing, looping, test-wrong, test-alone, body-wrong, looped, else-wrong, chosen, skipped, no-else, with-else, one-more, next-wrong, next-broken, ended, unended}
 use Rattle.parser.proofs.parser.Parser.+alternative+block+choice+cmd+cmds+repetition.Needs as need
 
-pub alternative-returns-in-Continue-advance : need.alternative-returns-in-Continue-advance
-alternative-returns-in-Continue-advance t c =
-    let a = reads-as (c .args .self .now) (c .advance .last .self) else′ (ap meant (c .in-Else .is)) (c .in-Continue-advance .ensures tt) in
+pub alternative-advance-requires : need.alternative-advance-requires
+alternative-advance-requires t c κs = (c .pre .0, token.plain-else (knownOf (c .args .self .now .names)) (c .args .self .now .token) (sym (c .if-not-is-else .ensures tt)))
+
+pub alternative-returns : need.alternative-returns
+alternative-returns t c =
+    let a = subst (λ v. Read (c .args .self .now) v (c .advance .last .self)) (token.is-else (next (c .args .self .now)) (sym (c .if-not-is-else .ensures tt))) (c .in-Continue-advance .ensures tt) in
     record {
       less = less-after 1 1 (c .args .self .now) (c .advance .last .self) (c .cmd .last .self) else′ (c .cmd .result) (omega arith) a (c .cmd .ensures .less);
       is = with-else (c .args .depth) (c .args .self .now) (c .advance .last .self) (c .cmd .last .self) (c .args .table .now) (c .cmd .last .table) (c .cmd .result) (c .pre .1 .0) a (c .cmd .ensures .is);
     }
 
-pub alternative-returns-in-rest : need.alternative-returns-in-rest
-alternative-returns-in-rest t c = record {
-  less = less-skipped (c .args .self .now) (c .emit .last .self) (c .args .table .now) (c .emit .last .table) Skip (c .args .self .now .place) (c .emit .result) (c .pre .0) (c .pre .1 .1) (c .emit .ensures);
-  is = no-else (c .args .depth) (c .args .self .now) (c .emit .last .self) (c .args .table .now) (c .emit .last .table) (c .emit .result) (token.no-else (knownOf (c .args .self .now .names)) (c .args .self .now .token) (c .in-rest .not-Else)) (c .emit .ensures);
+pub alternative-returns-then-not-is-else : need.alternative-returns-then-not-is-else
+alternative-returns-then-not-is-else t c = record {
+  less = less-skipped (c .args .self .now) (c .skip .last .self) (c .args .table .now) (c .skip .last .table) Skip (c .args .self .now .place) (c .skip .result) (c .pre .0) (c .pre .1 .1) (c .skip .ensures);
+  is = no-else (c .args .depth) (c .args .self .now) (c .skip .last .self) (c .args .table .now) (c .skip .last .table) (c .skip .result) (sym (c .if-not-is-else .ensures tt)) (c .skip .ensures);
 }
 
 pub block-returns : need.block-returns
@@ -89,8 +93,8 @@ cmd-returns-in-Read t c = record {
 
 pub cmd-returns-in-rest : need.cmd-returns-in-rest
 cmd-returns-in-rest t c = record {
-  less = less-skipped (c .args .self .now) (c .emit .last .self) (c .args .table .now) (c .emit .last .table) Skip (c .args .self .now .place) (c .emit .result) (c .pre .0) (c .pre .1 .1) (c .emit .ensures);
-  is = skipped (c .args .depth) (c .args .self .now) (c .emit .last .self) (c .args .table .now) (c .emit .last .table) (c .emit .result) (token.no-command (knownOf (c .args .self .now .names)) (c .args .self .now .token) (c .in-rest .not-Name) (c .in-rest .not-Start)) (c .emit .ensures);
+  less = less-skipped (c .args .self .now) (c .skip .last .self) (c .args .table .now) (c .skip .last .table) Skip (c .args .self .now .place) (c .skip .result) (c .pre .0) (c .pre .1 .1) (c .skip .ensures);
+  is = skipped (c .args .depth) (c .args .self .now) (c .skip .last .self) (c .args .table .now) (c .skip .last .table) (c .skip .result) (token.no-command (knownOf (c .args .self .now .names)) (c .args .self .now .token) (c .in-rest .not-Name) (c .in-rest .not-Start)) (c .skip .ensures);
 }
 
 pub cmds-returns-in-Break-advance : need.cmds-returns-in-Break-advance

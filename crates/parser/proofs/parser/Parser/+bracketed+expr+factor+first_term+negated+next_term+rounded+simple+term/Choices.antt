@@ -2,7 +2,7 @@ use Prim.Native.Nat.{_+_, _*_}
 use Rattle.parser.specs.Feeds.{unread}
 use Rattle.grammar.specs.Automaton.{simples, terms}
 use Rattle.parser.proofs.Loops.{Looped}
-use Rattle.parser.proofs.parser.Parser.+bracketed+expr+factor+first_term+negated+rounded+simple+term.Given as given
+use Rattle.parser.proofs.parser.Parser.+bracketed+expr+factor+first_term+negated+next_term+rounded+simple+term.Given as given
 
 -- unread tokens, and a level for each function
 abbrev pub μ-bracketed : given.MeasureT-bracketed
@@ -25,6 +25,9 @@ abbrev pub μ-first-term : given.MeasureT-first-term
 
 abbrev pub μ-simple : given.MeasureT-simple
 μ-simple l = 6 * unread (l .self .now) + 4
+
+abbrev pub μ-next-term : given.MeasureT-next-term
+μ-next-term l = 6 * unread (l .self .now) + 5
 
 abbrev pub μ-expr : given.MeasureT-expr
 μ-expr l = 6 * unread (l .self .now) + 5

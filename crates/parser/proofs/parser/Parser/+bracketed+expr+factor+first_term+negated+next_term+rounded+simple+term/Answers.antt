@@ -13,7 +13,7 @@ use Rattle.parser.proofs.Operands.{term-opens, expr-opens, term-refused, expr-
 use Rattle.parser.proofs.Operands.{minus-ok, minus-broken, minus-refused, no-minus-either}
 use Rattle.parser.proofs.Operands.{bracket-refused, bracket-missed, bracket-ok, not-refused, not-ok}
 use Rattle.parser.proofs.Operands.{round-unopened, left-refused, slash-missed, right-refused, close-missed, round-ok}
-use Rattle.parser.proofs.parser.Parser.+bracketed+expr+factor+first_term+negated+rounded+simple+term.Needs as need
+use Rattle.parser.proofs.parser.Parser.+bracketed+expr+factor+first_term+negated+next_term+rounded+simple+term.Needs as need
 
 pub term-returns-in-Break-left : need.term-returns-in-Break-left
 term-returns-in-Break-left t c =
@@ -61,7 +61,7 @@ simple-returns-in-Break-advance t c =
 pub simple-returns-in-Break-right : need.simple-returns-in-Break-right
 simple-returns-in-Break-right t c =
     let x = err-from-errBy (c .from-residual-in-Break-right .result) (c .from-residual-in-Break-right .ensures .1) in
-    rw (x .1, x .2) (record { less = tt; is = loop-refused sums (c .args .depth) (c .pre .1) (c .in-Continue-left .left) (c .loop-op .left) (c .args .self .now) (c .first-term .last .self) (c .loop-op .self) (c .args .table .now) (c .first-term .last .table) (c .loop-op .table) (c .in-Continue-left .ensures tt .is) (c .loop-op .inv) (c .in-Some .op) (c .advance .last .self) (c .term .last .self) (c .term .last .table) (c .in-Break-right .field-0 .0) (sym (c .in-Some .ensures tt)) (c .in-Continue-advance .ensures tt) (c .in-Break-right .ensures tt .is) })
+    rw (x .1, x .2) (record { less = tt; is = loop-refused sums (c .args .depth) (c .pre .1) (c .in-Continue-left .left) (c .loop-op .left) (c .args .self .now) (c .first-term .last .self) (c .loop-op .self) (c .args .table .now) (c .first-term .last .table) (c .loop-op .table) (c .in-Continue-left .ensures tt .is) (c .loop-op .inv) (c .in-Some .op) (c .advance .last .self) (c .next-term .last .self) (c .next-term .last .table) (c .in-Break-right .field-0 .0) (sym (c .in-Some .ensures tt)) (c .in-Continue-advance .ensures tt) (c .in-Break-right .ensures tt .is) })
 
 pub simple-loop-op-again : need.simple-loop-op-again
 simple-loop-op-again t c =
@@ -74,7 +74,7 @@ simple-loop-op-again t c =
       ready = l .ready (b .less .0) (omega (arith, b .less .1, b .less .2, same, l .count, k .room, a .one));
       fewer = omega (arith, b .less .1, same, k .fewer, a .one);
       room = omega (arith, b .less .2, same, l .count, k .room, a .one, a .count);
-      is = loop-again sums (c .args .depth) (c .pre .1) (c .in-Continue-left .left) (c .loop-op .left) (c .in-Continue-right .right) (c .emit-left .result) (c .first-term .last .self) (c .loop-op .self) (c .advance .last .self) (c .term .last .self) (c .emit-left .last .self) (c .first-term .last .table) (c .loop-op .table) (c .term .last .table) (c .emit-left .last .table) (c .in-Some .op) k (sym (c .in-Some .ensures tt)) a (b .is) (subst (λ o. Listed (c .term .last .self) (c .term .last .table) (Bin (c .loop-op .left) o (c .in-Continue-right .right)) (c .loop-op .self .place) (c .emit-left .result) (c .emit-left .last .self) (c .emit-left .last .table)) (c .operator .ensures) l);
+      is = loop-again sums (c .args .depth) (c .pre .1) (c .in-Continue-left .left) (c .loop-op .left) (c .in-Continue-right .right) (c .emit-left .result) (c .first-term .last .self) (c .loop-op .self) (c .advance .last .self) (c .next-term .last .self) (c .emit-left .last .self) (c .first-term .last .table) (c .loop-op .table) (c .next-term .last .table) (c .emit-left .last .table) (c .in-Some .op) k (sym (c .in-Some .ensures tt)) a (b .is) (subst (λ o. Listed (c .next-term .last .self) (c .next-term .last .table) (Bin (c .loop-op .left) o (c .in-Continue-right .right)) (c .loop-op .self .place) (c .emit-left .result) (c .emit-left .last .self) (c .emit-left .last .table)) (c .operator .ensures) l);
     }
 
 pub simple-returns : need.simple-returns
@@ -123,7 +123,7 @@ expr-returns-in-Continue-right t c =
 pub first-term-returns-in-Break-part : need.first-term-returns-in-Break-part
 first-term-returns-in-Break-part t c =
     let x = err-from-errBy (c .from-residual-in-Break-part .result) (c .from-residual-in-Break-part .ensures .1) in
-    rw (x .1, x .2) (record { less = tt; is = minus-refused (c .args .depth) (c .pre .1) (c .args .self .now) (c .advance .last .self) (c .term-2 .last .self) (c .args .table .now) (c .term-2 .last .table) (c .in-Break-part .field-0 .0) (sym (c .if-not-is-minus .ensures tt)) (c .in-Continue-advance .ensures tt) (c .in-Break-part .ensures tt .is) })
+    rw (x .1, x .2) (record { less = tt; is = minus-refused (c .args .depth) (c .pre .1) (c .args .self .now) (c .advance .last .self) (c .next-term .last .self) (c .args .table .now) (c .next-term .last .table) (c .in-Break-part .field-0 .0) (sym (c .if-not-is-minus .ensures tt)) (c .in-Continue-advance .ensures tt) (c .in-Break-part .ensures tt .is) })
 
 pub first-term-returns : need.first-term-returns
 first-term-returns t c =
@@ -133,7 +133,7 @@ first-term-returns t c =
     let same = ap (λ f. length (f .tokens)) (l .same) in
     record {
       less = (l .ready (b .less .0) (omega (arith, c .pre .0 .room, b .less .1, b .less .2, same, l .count, a .one, a .count)), omega (arith, b .less .1, same, a .one), omega (arith, b .less .2, same, l .count, a .one, a .count));
-      is = minus-ok (c .args .depth) (c .in-Continue-part .part) (c .emit .result) (c .pre .1) (c .args .self .now) (c .advance .last .self) (c .term-2 .last .self) (c .emit .last .self) (c .args .table .now) (c .term-2 .last .table) (c .emit .last .table) (sym (c .if-not-is-minus .ensures tt)) a (b .is) l;
+      is = minus-ok (c .args .depth) (c .in-Continue-part .part) (c .emit .result) (c .pre .1) (c .args .self .now) (c .advance .last .self) (c .next-term .last .self) (c .emit .last .self) (c .args .table .now) (c .next-term .last .table) (c .emit .last .table) (sym (c .if-not-is-minus .ensures tt)) a (b .is) l;
     }
 
 pub first-term-returns-then-not-is-minus : need.first-term-returns-then-not-is-minus

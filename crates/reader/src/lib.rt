@@ -1,2 +1,3 @@
-// The reader: from a text to its node table.
+// The reader: from a text to its node table, and the names of a text.
+pub mod naming;
 pub mod reading;

@@ -1,5 +1,6 @@
 // Each limit: what just keeps it, and what just passes it.
 use crate::trying::counted;
+use crate::trying::counted_in;
 use crate::trying::listed;
 use crate::trying::refused;
 use crate::trying::refused_in;
@@ -17,16 +18,26 @@ fn text_length(rt: LibcRuntime) -> Result<(), Fail> {
     counted(longest.as_str(), 2)?;
     let longer = text_of(heap, &[("program p; begin end.", 1), (" ", 16364)])?;
     refused(longer.as_str(), Question::TextLength, 0)?;
-    refused(text_of(heap, &[("?", 16385)])?.as_str(), Question::TextLength, 0)
+    refused(
+        text_of(heap, &[("?", 16385)])?.as_str(),
+        Question::TextLength,
+        0,
+    )
 }
 
 #[test]
 fn name_length() -> Result<(), Fail> {
-    counted("program a234567890123456; begin read(b234567890123456) end.", 2)?;
+    counted(
+        "program a234567890123456; begin read(b234567890123456) end.",
+        2,
+    )?;
     let cases = [
         ("program a2345678901234567; begin end.", 8),
         ("program p; begin read(a2345678901234567) end.", 22),
-        ("program p; var a, a2345678901234567: integer; begin end.", 18),
+        (
+            "program p; var a, a2345678901234567: integer; begin end.",
+            18,
+        ),
         ("A2345678901234567", 0),
         ("program p; begin write(1 a2345678901234567) end.", 25),
     ];
@@ -39,9 +50,21 @@ fn name_length() -> Result<(), Fail> {
 #[test]
 fn number_size(rt: LibcRuntime) -> Result<(), Fail> {
     let heap = rt.alloc();
-    let kept = [("0", 100, "", 0), ("", 0, "2147483647", 2147483647), ("0", 90, "2147483647", 2147483647)];
+    let kept = [
+        ("0", 100, "", 0),
+        ("", 0, "2147483647", 2147483647),
+        ("0", 90, "2147483647", 2147483647),
+    ];
     for (front, times, digits, value) in kept {
-        let text = text_of(heap, &[("program p; begin write(", 1), (front, times), (digits, 1), (") end.", 1)])?;
+        let text = text_of(
+            heap,
+            &[
+                ("program p; begin write(", 1),
+                (front, times),
+                (digits, 1),
+                (") end.", 1),
+            ],
+        )?;
         listed(
             text.as_str(),
             &[
@@ -51,9 +74,23 @@ fn number_size(rt: LibcRuntime) -> Result<(), Fail> {
             ],
         )?;
     }
-    let passed = [("", 0, "2147483648"), ("0", 90, "2147483648"), ("9", 100, ""), ("", 0, "4294967296"), ("", 0, "18446744073709551616")];
+    let passed = [
+        ("", 0, "2147483648"),
+        ("0", 90, "2147483648"),
+        ("9", 100, ""),
+        ("", 0, "4294967296"),
+        ("", 0, "18446744073709551616"),
+    ];
     for (front, times, digits) in passed {
-        let text = text_of(heap, &[("program p; begin write(", 1), (front, times), (digits, 1), (") end.", 1)])?;
+        let text = text_of(
+            heap,
+            &[
+                ("program p; begin write(", 1),
+                (front, times),
+                (digits, 1),
+                (") end.", 1),
+            ],
+        )?;
         refused(text.as_str(), Question::NumberSize, 23)?;
     }
     refused("2147483648", Question::NumberSize, 0)
@@ -66,26 +103,55 @@ fn depth(rt: LibcRuntime) -> Result<(), Fail> {
     let cases = [
         ("program p; begin write(", "(", "1", ")", ") end.", 3),
         ("program p; begin write(", "not ", "1", "", ") end.", 34),
-        ("program p; begin write(", "round(", "1", "/2)", ") end.", 65),
+        (
+            "program p; begin write(",
+            "round(",
+            "1",
+            "/2)",
+            ") end.",
+            65,
+        ),
         ("program p; begin ", "begin ", "", " end", " end.", 2),
         ("program p; begin ", "if a then ", "", "", " end.", 95),
         ("program p; begin ", "if a then else ", "", "", " end.", 95),
         ("program p; begin ", "while a do ", "", "", " end.", 64),
     ];
     for (front, opener, inside, closer, rest, count) in cases {
-        let open = text_of(heap, &[(front, 1), (opener, 31)])?;
-        let open = open.as_str();
-        let deepest = text_of(heap, &[(open, 1), (inside, 1), (closer, 31), (rest, 1)])?;
+        let place = text_of(heap, &[(front, 1), (opener, 31)])?.len();
+        let deepest = text_of(
+            heap,
+            &[
+                (front, 1),
+                (opener, 31),
+                (inside, 1),
+                (closer, 31),
+                (rest, 1),
+            ],
+        )?;
         counted(deepest.as_str(), count)?;
-        let deeper = text_of(heap, &[(open, 1), (opener, 1), (inside, 1), (closer, 32), (rest, 1)])?;
-        refused(deeper.as_str(), Question::Depth, open.len())?;
+        let deeper = text_of(
+            heap,
+            &[
+                (front, 1),
+                (opener, 32),
+                (inside, 1),
+                (closer, 32),
+                (rest, 1),
+            ],
+        )?;
+        refused(deeper.as_str(), Question::Depth, place)?;
         // where no opener may stand, the grammar is asked first
-        let operand = text_of(heap, &[(open, 1), ("x ", 1)])?;
-        let misplaced = text_of(heap, &[(operand.as_str(), 1), (opener, 1)])?;
-        refused(misplaced.as_str(), Question::Grammar, operand.len())?;
+        let misplaced = text_of(heap, &[(front, 1), (opener, 31), ("x ", 1), (opener, 1)])?;
+        refused(misplaced.as_str(), Question::Grammar, place + 2)?;
     }
     // one after another they are not nested
-    counted(text_of(heap, &[("program p; begin ", 1), ("begin end; ", 40), ("end.", 1)])?.as_str(), 82)
+    counted(
+        text_of(
+            heap,
+            &[("program p; begin ", 1), ("begin end; ", 40), ("end.", 1)],
+        )?.as_str(),
+        82,
+    )
 }
 
 // 63 names, then the given ones; the program's own is a name like others where it is used.
@@ -115,7 +181,10 @@ fn declared_names(rt: LibcRuntime) -> Result<(), Fail> {
     let place = text.len() + 2;
     let last = text_of(heap, &[(text.as_str(), 1), (": integer; begin end.", 1)])?;
     counted(last.as_str(), 66)?;
-    let another = text_of(heap, &[(text.as_str(), 1), (", v65: integer; begin end.", 1)])?;
+    let another = text_of(
+        heap,
+        &[(text.as_str(), 1), (", v65: integer; begin end.", 1)],
+    )?;
     refused(another.as_str(), Question::NameCount, place)
 }
 
@@ -124,12 +193,17 @@ fn node_count(rt: LibcRuntime) -> Result<(), Fail> {
     let heap = rt.alloc();
     let most = text_of(heap, &[("program p; begin ", 1), (";", 511), (" end.", 1)])?;
     counted(most.as_str(), 1024)?;
-    let more = text_of(heap, &[("program p; begin ", 1), (";", 511), ("write(1) end. ", 1)])?;
+    let more = text_of(
+        heap,
+        &[("program p; begin ", 1), (";", 511), ("write(1) end. ", 1)],
+    )?;
     refused(more.as_str(), Question::NodeCount, more.len())?;
     let open = text_of(heap, &[("program p; begin ", 1), (";", 600), ("end", 1)])?;
     refused(open.as_str(), Question::Grammar, open.len())?;
+    let routine = "program p; begin write(1) end.";
+    counted_in(&mut [Entry::new(Node::Skip, 7); 3], routine, 3)?;
     let mut short = [Entry::new(Node::Skip, 7); 2];
-    refused_in(&mut short, "program p; begin write(1) end.", Question::NodeCount, 30)?;
+    refused_in(&mut short, routine, Question::NodeCount, 30)?;
     refused_in(&mut short, "program p; begin write(1) end", Question::Grammar, 29)?;
     refused_in(&mut [], "program p; begin end.", Question::NodeCount, 21)
 }

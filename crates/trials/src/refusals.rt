@@ -29,7 +29,7 @@ fn tokens() -> Result<(), Fail> {
 fn grammar() -> Result<(), Fail> {
     let cases = [
         ("", 0),
-        ("  { }\n", 7),
+        ("  { }\n", 6),
         ("begin end.", 0),
         ("program ; begin end.", 8),
         ("program repeat; begin end.", 8),

@@ -45,7 +45,11 @@ pub fn refused_in(
 // The text is read as so many nodes.
 pub fn counted(text: &str, count: usize) -> Result<(), Fail> {
     let mut table = [Entry::new(Node::Skip, 7); 1100];
-    check_eq(read(text.as_bytes(), &mut table), Ok(count)).note(text)
+    counted_in(&mut table, text, count)
+}
+
+pub fn counted_in(table: &mut [Entry], text: &str, count: usize) -> Result<(), Fail> {
+    check_eq(read(text.as_bytes(), table), Ok(count)).note(text)
 }
 
 // The text is read as these nodes at these places, and zeros stand after them.

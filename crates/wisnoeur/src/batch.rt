@@ -19,7 +19,6 @@ use tosca::table::Entry;
 // What is kept from line to line.
 #[derive(Drop)]
 struct Session {
-    heap: Global,
     table: Vec<Entry>,
     count: usize,
 }
@@ -70,7 +69,6 @@ fn without_end(line: &[u8]) -> &[u8] {
 impl Session {
     fn new(heap: Global) -> Session {
         Session {
-            heap,
             table: Vec::new(heap),
             count: 0,
         }
@@ -92,15 +90,13 @@ impl Session {
 
     fn read<'a>(&'a mut self, cap: usize, text: &[u8]) -> Result<Answer<'a>, AllocError> {
         self.clear(cap)?;
-        Ok(
-            match reading::read(text, &mut self.table) {
-                Ok(count) => {
-                    self.count = count;
-                    Answer::Accepted(count)
-                }
-                Err(refusal) => Answer::Refused(refusal),
-            },
-        )
+        match reading::read(text, &mut self.table) {
+            Ok(count) => {
+                self.count = count;
+                Ok(Answer::Accepted(count))
+            }
+            Err(refusal) => Ok(Answer::Refused(refusal)),
+        }
     }
 
     // Makes the table one of `cap` entries, without nodes.

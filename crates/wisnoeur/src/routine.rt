@@ -9,7 +9,8 @@ use console::naming::NamedDisplay;
 use console::naming::name_of;
 use console::position::Position;
 use console::position::PositionDisplay;
-use reader::names::Names;
+use parser::names::Names;
+use reader::naming::names_of;
 use reader::reading;
 use std::fs::File;
 use std::io;
@@ -31,7 +32,7 @@ pub fn read(rt: &LibcRuntime, file: &str) -> Result<(), Failure> {
     let text = load(rt, file)?;
     let mut table = [BLANK; NODES];
     let nodes = accept(rt, file, &text, &mut table)?;
-    let names = reading::names_of(&text).count();
+    let names = names_of(&text).count;
     println!(rt, "read: {nodes} nodes, {names} names (not yet checked)")?;
     Ok(())
 }
@@ -41,7 +42,7 @@ pub fn table(rt: &LibcRuntime, file: &str) -> Result<(), Failure> {
     let text = load(rt, file)?;
     let mut table = [BLANK; NODES];
     let nodes = accept(rt, file, &text, &mut table)?;
-    let names = reading::names_of(&text);
+    let names = names_of(&text);
     let mut out = BufWriter::new(rt.stdout());
     for (number, entry) in table.iter().take(nodes).enumerate() {
         print_node(&mut out, number, entry, &text, &names)?;

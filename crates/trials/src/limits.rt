@@ -6,6 +6,8 @@ use crate::trying::refused;
 use crate::trying::refused_in;
 use crate::trying::text_of;
 use lexer::token::Question;
+use std::alloc::AllocError;
+use std::alloc::Global;
 use std::test::*;
 use tosca::operators::Value;
 use tosca::table::Entry;
@@ -47,26 +49,26 @@ fn name_length() -> Result<(), Fail> {
     Ok(())
 }
 
+// A routine that writes a number of these digits, the first so many times.
+fn writing(heap: Global, digit: &str, times: usize, rest: &str) -> Result<String, AllocError> {
+    format!(
+        heap,
+        "program p; begin write({}{rest}) end.",
+        digit.repeat(heap, times)?
+    )
+}
+
 #[test]
 fn number_size(rt: LibcRuntime) -> Result<(), Fail> {
     let heap = rt.alloc();
     let kept = [
         ("0", 100, "", 0),
-        ("", 0, "2147483647", 2147483647),
+        ("2", 1, "147483647", 2147483647),
         ("0", 90, "2147483647", 2147483647),
     ];
-    for (front, times, digits, value) in kept {
-        let text = text_of(
-            heap,
-            &[
-                ("program p; begin write(", 1),
-                (front, times),
-                (digits, 1),
-                (") end.", 1),
-            ],
-        )?;
+    for (digit, times, rest, value) in kept {
         listed(
-            text.as_str(),
+            writing(heap, digit, times, rest)?.as_str(),
             &[
                 (Node::Const(Value::Number(value)), 23),
                 (Node::Output(0), 17),
@@ -75,25 +77,60 @@ fn number_size(rt: LibcRuntime) -> Result<(), Fail> {
         )?;
     }
     let passed = [
-        ("", 0, "2147483648"),
+        ("2", 1, "147483648"),
         ("0", 90, "2147483648"),
         ("9", 100, ""),
-        ("", 0, "4294967296"),
-        ("", 0, "18446744073709551616"),
+        ("4", 1, "294967296"),
+        ("1", 1, "8446744073709551616"),
     ];
-    for (front, times, digits) in passed {
-        let text = text_of(
-            heap,
-            &[
-                ("program p; begin write(", 1),
-                (front, times),
-                (digits, 1),
-                (") end.", 1),
-            ],
+    for (digit, times, rest) in passed {
+        refused(
+            writing(heap, digit, times, rest)?.as_str(),
+            Question::NumberSize,
+            23,
         )?;
-        refused(text.as_str(), Question::NumberSize, 23)?;
     }
     refused("2147483648", Question::NumberSize, 0)
+}
+
+// A routine with openers in one another, and what stands around and inside them.
+#[derive(Clone, Copy)]
+struct Nest<'a> {
+    front: &'a str,
+    opener: &'a str,
+    inside: &'a str,
+    closer: &'a str,
+}
+
+impl<'a> Nest<'a> {
+    fn new(front: &'a str, opener: &'a str, inside: &'a str, closer: &'a str) -> Nest<'a> {
+        Nest {
+            front,
+            opener,
+            inside,
+            closer,
+        }
+    }
+
+    fn text(self, heap: Global, times: usize) -> Result<String, AllocError> {
+        let open = self.opener.repeat(heap, times)?;
+        let close = self.closer.repeat(heap, times)?;
+        format!(
+            heap,
+            "program p; begin {}{open}{}{close} end.",
+            self.front, self.inside
+        )
+    }
+
+    // The openers, and one more where none may stand.
+    fn misplaced(self, heap: Global, times: usize) -> Result<String, AllocError> {
+        let open = self.opener.repeat(heap, times)?;
+        format!(
+            heap,
+            "program p; begin {}{open}x {}",
+            self.front, self.opener
+        )
+    }
 }
 
 // The body's own begin is one of the 32.
@@ -101,57 +138,27 @@ fn number_size(rt: LibcRuntime) -> Result<(), Fail> {
 fn depth(rt: LibcRuntime) -> Result<(), Fail> {
     let heap = rt.alloc();
     let cases = [
-        ("program p; begin write(", "(", "1", ")", ") end.", 3),
-        ("program p; begin write(", "not ", "1", "", ") end.", 34),
-        (
-            "program p; begin write(",
-            "round(",
-            "1",
-            "/2)",
-            ") end.",
-            65,
-        ),
-        ("program p; begin ", "begin ", "", " end", " end.", 2),
-        ("program p; begin ", "if a then ", "", "", " end.", 95),
-        ("program p; begin ", "if a then else ", "", "", " end.", 95),
-        ("program p; begin ", "while a do ", "", "", " end.", 64),
+        (Nest::new("b := ", "(", "1", ")"), 53, 3),
+        (Nest::new("b := ", "not ", "1", ""), 146, 34),
+        (Nest::new("b := ", "round(", "1", "/2)"), 208, 65),
+        (Nest::new("", "begin ", "", " end"), 203, 2),
+        (Nest::new("", "if a then ", "", ""), 327, 95),
+        (Nest::new("", "if a then else ", "", ""), 482, 95),
+        (Nest::new("", "while a do ", "", ""), 358, 64),
     ];
-    for (front, opener, inside, closer, rest, count) in cases {
-        let place = text_of(heap, &[(front, 1), (opener, 31)])?.len();
-        let deepest = text_of(
-            heap,
-            &[
-                (front, 1),
-                (opener, 31),
-                (inside, 1),
-                (closer, 31),
-                (rest, 1),
-            ],
-        )?;
-        counted(deepest.as_str(), count)?;
-        let deeper = text_of(
-            heap,
-            &[
-                (front, 1),
-                (opener, 32),
-                (inside, 1),
-                (closer, 32),
-                (rest, 1),
-            ],
-        )?;
-        refused(deeper.as_str(), Question::Depth, place)?;
+    for (nest, place, count) in cases {
+        counted(nest.text(heap, 31)?.as_str(), count)?;
+        refused(nest.text(heap, 32)?.as_str(), Question::Depth, place)?;
         // where no opener may stand, the grammar is asked first
-        let misplaced = text_of(heap, &[(front, 1), (opener, 31), ("x ", 1), (opener, 1)])?;
-        refused(misplaced.as_str(), Question::Grammar, place + 2)?;
+        refused(
+            nest.misplaced(heap, 31)?.as_str(),
+            Question::Grammar,
+            place.saturating_add(2),
+        )?;
     }
     // one after another they are not nested
-    counted(
-        text_of(
-            heap,
-            &[("program p; begin ", 1), ("begin end; ", 40), ("end.", 1)],
-        )?.as_str(),
-        82,
-    )
+    let row = "begin end; ".repeat(heap, 40)?;
+    counted(format!(heap, "program p; begin {row} end.")?.as_str(), 82)
 }
 
 // 63 names, then the given ones; the program's own is a name like others where it is used.
@@ -204,6 +211,11 @@ fn node_count(rt: LibcRuntime) -> Result<(), Fail> {
     counted_in(&mut [Entry::new(Node::Skip, 7); 3], routine, 3)?;
     let mut short = [Entry::new(Node::Skip, 7); 2];
     refused_in(&mut short, routine, Question::NodeCount, 30)?;
-    refused_in(&mut short, "program p; begin write(1) end", Question::Grammar, 29)?;
+    refused_in(
+        &mut short,
+        "program p; begin write(1) end",
+        Question::Grammar,
+        29,
+    )?;
     refused_in(&mut [], "program p; begin end.", Question::NodeCount, 21)
 }

@@ -18,26 +18,26 @@ use Rattle.grammar.specs.Building.{Act, aConst, aVar, aUny, aBin, aSkip, aAssi
 
 pub data Sym : Type 0 where
   expr : Sym
-  rels : Sym -- [relop simple]
+  rels : Sym  -- [relop simple]
   simple : Sym
-  simples : Sym -- {addop term}
+  simples : Sym  -- {addop term}
   term : Sym
-  terms : Sym -- {mulop factor}
+  terms : Sym  -- {mulop factor}
   factor : Sym
   cmd : Sym
-  elses : Sym -- [else cmd]
-  cmds : Sym -- {; cmd} end
+  elses : Sym  -- [else cmd]
+  cmds : Sym  -- {; cmd} end
   is : Mark → Sym
   isOpen : Sym
-  isAssigned : ℕ → Sym -- := expr, after a name
-  isInput : ℕ → Sym -- name, after read
+  isAssigned : ℕ → Sym  -- := expr, after a name
+  isInput : ℕ → Sym  -- name, after read
   text : Sym
   title : Sym
-  vars : Sym -- [var decl {decl}] begin cmds end .
-  decls : Sym -- {decl} begin cmds end .
-  aName : List Named → Sym -- name {, name} : type ; {decl} begin cmds end .
-  names : List Named → Sym -- {, name} : type ; ..
-  type : List Named → Sym -- type ; ..
+  vars : Sym  -- [var decl {decl}] begin cmds end .
+  decls : Sym  -- {decl} begin cmds end .
+  aName : List Named → Sym  -- name {, name} : type ; {decl} begin cmds end .
+  names : List Named → Sym  -- {, name} : type ; ..
+  type : List Named → Sym  -- type ; ..
   does : Act → Sym
   leave : Sym
 

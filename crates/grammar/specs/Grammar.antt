@@ -32,11 +32,11 @@ use Rattle.grammar.specs.Building.{mulOp, addOp, relOp, Named, typed}
 -- the parts of an expression; the rest of a list of operands knows the tree on its left, so operators group to the left
 pub data ExprPart : Type 0 where
   expr : ExprPart
-  rels : Expr ℕ → ExprPart -- [(= | < | >) simple]
+  rels : Expr ℕ → ExprPart  -- [(= | < | >) simple]
   simple : ExprPart
-  simples : Expr ℕ → ExprPart -- {(+ | - | or) term}
+  simples : Expr ℕ → ExprPart  -- {(+ | - | or) term}
   term : ExprPart
-  terms : Expr ℕ → ExprPart -- {(* | div | and) factor}
+  terms : Expr ℕ → ExprPart  -- {(* | div | and) factor}
   factor : ExprPart
 
 pub data ExprDer : ExprPart → List Item → List Item → Expr ℕ → Type 0 where
@@ -60,8 +60,8 @@ pub data ExprDer : ExprPart → List Item → List Item → Expr ℕ → Type 0 
 -- the parts of a command; a list of commands is a seq of all before its last `;` and the last
 pub data CmdPart : Type 0 where
   cmd : CmdPart
-  elses : CmdPart -- [else cmd]
-  cmds : Cmd ℕ → CmdPart -- {; cmd} end
+  elses : CmdPart  -- [else cmd]
+  cmds : Cmd ℕ → CmdPart  -- {; cmd} end
 
 -- a skip's place is that of the token that follows it
 pub data CmdDer : CmdPart → List Item → List Item → Cmd ℕ → Type 0 where

@@ -69,10 +69,12 @@ stucks {J} {U} {t} {p} {g} e = record { stops = λ V was es h. ap (λ v. after l
 
 -- an opener that is too deep
 pub too-deep : {J : List Sym} {U : List ℕ} {c : ℕ} {T : List Entry} {t : Tok} {p : ℕ} {g : Feed} (K : List Sym) → ((s : Listing) → step list J s t p ≡ go K s) → 32 < marks K → Stops J U c T (more (at t p) g) (refuses Depth p)
-too-deep {J} {U} {t} {p} {g} K e m = record { stops = λ V was es h.
-    let s = listing (U ++ V) es in
-    ap (λ v. after list (limits (g .ending)) (at t p) (g .tokens) v (λ K″ s″. reading K″ s″ g)) (e s)
-    ∙ ap (λ b. cond b (cond (few t) (reading K s g) (refused 7 p)) (refused 6 p)) (over (leb (marks K) 32) refl) }
+too-deep {J} {U} {t} {p} {g} K e m = record {
+  stops = λ V was es h.
+      let s = listing (U ++ V) es in
+      ap (λ v. after list (limits (g .ending)) (at t p) (g .tokens) v (λ K″ s″. reading K″ s″ g)) (e s)
+      ∙ ap (λ b. cond b (cond (few t) (reading K s g) (refused 7 p)) (refused 6 p)) (over (leb (marks K) 32) refl);
+}
   where
     over : (b : Bool) → leb (marks K) 32 ≡ b → leb (marks K) 32 ≡ false
     over true x = absurd (omega (arith, leb-true (marks K) 32 x))
@@ -80,11 +82,13 @@ too-deep {J} {U} {t} {p} {g} K e m = record { stops = λ V was es h.
 
 -- a name that is one too many
 pub too-many : {J : List Sym} {U : List ℕ} {c : ℕ} {T : List Entry} {n p : ℕ} {g : Feed} (K : List Sym) (s′ : Listing → Listing) → ((s : Listing) → step list J s (name n) p ≡ go K (s′ s)) → marks K ≤ 32 → 64 ≤ n → Stops J U c T (more (at (name n) p) g) (refuses NameCount p)
-too-many {J} {U} {n} {p} {g} K s′ e m k = record { stops = λ V was es h.
-    let s = listing (U ++ V) es in
-    ap (λ v. after list (limits (g .ending)) (at (name n) p) (g .tokens) v (λ K″ s″. reading K″ s″ g)) (e s)
-    ∙ ap (λ b. cond b (cond (ltb n 64) (reading K (s′ s) g) (refused 7 p)) (refused 6 p)) (le-leb (marks K) 32 m)
-    ∙ ap (λ b. cond b (reading K (s′ s) g) (refused 7 p)) (le-ltb n 64 k) }
+too-many {J} {U} {n} {p} {g} K s′ e m k = record {
+  stops = λ V was es h.
+      let s = listing (U ++ V) es in
+      ap (λ v. after list (limits (g .ending)) (at (name n) p) (g .tokens) v (λ K″ s″. reading K″ s″ g)) (e s)
+      ∙ ap (λ b. cond b (cond (ltb n 64) (reading K (s′ s) g) (refused 7 p)) (refused 6 p)) (le-leb (marks K) 32 m)
+      ∙ ap (λ b. cond b (reading K (s′ s) g) (refused 7 p)) (le-ltb n 64 k);
+}
 
 -- bytes that are refused
 pub breaks : {J : List Sym} {U : List ℕ} {c : ℕ} {T : List Entry} (r : Refusal) → Stops J U c T (broken r) r
@@ -113,14 +117,15 @@ holds-more was es c T n h = (omega (arith, length-append es (n ∷ []), h .0), a
 
 -- a node is listed
 pub lists : {K : List Sym} {U W : List ℕ} {p q : Parser} {T T′ : List Entry} {n : Node} {place r : ℕ} (a : Act) → ((V : List ℕ) (es : List Entry) → list a (listing (U ++ V) es) ≡ listing (length es ∷ (W ++ V)) (es ++ (entry n place ∷ []))) → Listed p T n place r q T′ → Goes (does a ∷ K) U (p .count) T (ahead p) K (r ∷ W) (q .count) T′ (ahead q)
-lists {K} {U} {W} {p} {q} {T} {T′} {n} {place} {r} a e l = record { goes = λ V was es h.
-    let more′ = holds-more was es (p .count) T (entry n place) h in
-    let counted = subst (λ k. Holds was (es ++ (entry n place ∷ [])) k (set T (p .count) (entry n place))) (sym (l .count)) more′ in
-    (
-      es ++ (entry n place ∷ []),
-      subst (λ x. Holds was (es ++ (entry n place ∷ [])) (q .count) x) (sym (l .wrote)) counted,
-      doing a K (listing (U ++ V) es) (ahead p .tokens) (ahead p .ending)
-      ∙ ap (λ s. reading K s (ahead p)) (e V es)
-      ∙ ap (λ m. reading K (listing (m ∷ (W ++ V)) (es ++ (entry n place ∷ []))) (ahead p)) (h .0 ∙ sym (l .number))
-      ∙ ap (reading K (listing (r ∷ (W ++ V)) (es ++ (entry n place ∷ [])))) (sym (l .same))
-    ) }
+lists {K} {U} {W} {p} {q} {T} {T′} {n} {place} {r} a e l = record {
+  goes = λ V was es h.
+      let more′ = holds-more was es (p .count) T (entry n place) h in
+      let counted = subst (λ k. Holds was (es ++ (entry n place ∷ [])) k (set T (p .count) (entry n place))) (sym (l .count)) more′ in (
+        es ++ (entry n place ∷ []),
+        subst (λ x. Holds was (es ++ (entry n place ∷ [])) (q .count) x) (sym (l .wrote)) counted,
+        doing a K (listing (U ++ V) es) (ahead p .tokens) (ahead p .ending)
+            ∙ ap (λ s. reading K s (ahead p)) (e V es)
+            ∙ ap (λ m. reading K (listing (m ∷ (W ++ V)) (es ++ (entry n place ∷ []))) (ahead p)) (h .0 ∙ sym (l .number))
+            ∙ ap (reading K (listing (r ∷ (W ++ V)) (es ++ (entry n place ∷ [])))) (sym (l .same)),
+      );
+}

@@ -223,44 +223,48 @@ pub accepts : (cap : ℕ) (bs : List ℕ) (r : Listing) → outcome cap bs ≡ a
 accepts cap bs r h =
     let x = held cap (length bs) (reading bs) r h in
     elim (length-asked bs) [
-      inr y ↦ absurd (let e : refused 1 0 ≡ accepted r = sym (y .1) ∙ x .0 in let z : _≡_ {A = ℕ} 0 1 = cc in omega arith)
-    | inl short ↦
-      let d = derived bs short r (x .0) in
-      let t = d .0 in
-      let l = d .1 in
-      let es : r .entries ≡ entriesOf t = ap (λ (v : Listing). v .entries) (d .2) in
-      let n : length (r .entries) ≡ length (entriesOf t) = ap length es in
-      let few-all = subst (λ s. Few (items nothing s)) (moderate-limited (scan 0 bs) (l .moderate)) (all-few (ends (limited (scan 0 bs))) r (tokens bs) (text ∷ []) (listing [] []) (sym (reads-short bs short) ∙ x .0)) in
-      let b = bounded (items nothing (scan 0 bs)) t (l .derived .derivation) (fit nothing (scan 0 bs) 0 (0 + length bs) (places 0 bs) (omega arith) few-all) in
-      let few-nodes : length (entriesOf t) ≤ 1024 = omega (arith, x .1, n) in
-      let room : length (entriesOf t) ≤ cap = omega (arith, x .2, n) in
-      record {
-        t = t;
-        limited = l;
-        held = (few-nodes, room);
-        counted = n;
-        table = ap (λ v. laid v (replicate cap blank)) es;
-        opens = ap (λ v. Rattle.tosca.specs.Opens.opening (laid v (replicate cap blank)) (length v)) es ∙ listed-opens t b cap few-nodes room;
-        decodes = ap programOf (take-laid (r .entries) (replicate cap blank) (omega (arith, x .2, length-replicate cap blank)) ∙ es) ∙ reads-listed t;
-      } ]
+      | inr y ↦ absurd (let e : refused 1 0 ≡ accepted r = sym (y .1) ∙ x .0 in let z : _≡_ {A = ℕ} 0 1 = cc in omega arith)
+      | inl short ↦
+          let d = derived bs short r (x .0) in
+          let t = d .0 in
+          let l = d .1 in
+          let es : r .entries ≡ entriesOf t = ap (λ (v : Listing). v .entries) (d .2) in
+          let n : length (r .entries) ≡ length (entriesOf t) = ap length es in
+          let few-all = subst (λ s. Few (items nothing s)) (moderate-limited (scan 0 bs) (l .moderate)) (all-few (ends (limited (scan 0 bs))) r (tokens bs) (text ∷ []) (listing [] []) (sym (reads-short bs short) ∙ x .0)) in
+          let b = bounded (items nothing (scan 0 bs)) t (l .derived .derivation) (fit nothing (scan 0 bs) 0 (0 + length bs) (places 0 bs) (omega arith) few-all) in
+          let few-nodes : length (entriesOf t) ≤ 1024 = omega (arith, x .1, n) in
+          let room : length (entriesOf t) ≤ cap = omega (arith, x .2, n) in
+          record {
+            t = t;
+            limited = l;
+            held = (few-nodes, room);
+            counted = n;
+            table = ap (λ v. laid v (replicate cap blank)) es;
+            opens = ap (λ v. Rattle.tosca.specs.Opens.opening (laid v (replicate cap blank)) (length v)) es ∙ listed-opens t b cap few-nodes room;
+            decodes = ap programOf (take-laid (r .entries) (replicate cap blank) (omega (arith, x .2, length-replicate cap blank)) ∙ es) ∙ reads-listed t;
+          }
+    ]
 
 -- a refused text
 pub refuses : (cap : ℕ) (bs : List ℕ) (x : Question) (p : ℕ) → outcome cap bs ≡ refused (number-of x) p → Reason cap bs x p
 refuses cap bs x p h =
     elim (refusing cap (length bs) (reading bs) (number-of x) p h) [
-      inl e ↦ elim (length-asked bs) [
-        inr y ↦
-        let a : _≡_ {A = Outcome Listing} (refused 1 0) (refused (number-of x) p) = sym (y .1) ∙ e in
-        let n : number-of x ≡ 1 = cc in
-        let z : p ≡ 0 = cc in
-        subst (λ v. Reason cap bs x v) (sym z) (subst (λ v. Reason cap bs v 0) (sym (same-question x TextLength n)) (textLength (y .0)))
-      | inl short ↦ reason cap bs short (number-of x) p (law.reasoned list (listing [] []) (tokens bs) (ends (limited (scan 0 bs))) (ends-limited nothing 0 bs) (number-of x) p (sym (reads-short bs short) ∙ e)) x refl ]
-    | inr y ↦ elim (length-asked bs) [
-        inr z ↦ absurd (let e : refused 1 0 ≡ accepted (y .0) = sym (z .1) ∙ y .1 in let w : _≡_ {A = ℕ} 0 1 = cc in omega arith)
-      | inl short ↦
-        let d = derived bs short (y .0) (y .1) in
-        let es : y .0 .entries ≡ entriesOf (d .0) = ap (λ (v : Listing). v .entries) (d .2) in
-        subst (λ v. Reason cap bs x v) (sym (y .3)) (subst (λ v. Reason cap bs v (length bs)) (sym (same-question x NodeCount (y .2))) (nodeCount (d .0) (d .1) (subst (λ v. (1024 < length v) ⊎ (cap < length v)) es (y .4)))) ] ]
+      | inl e ↦ elim (length-asked bs) [
+        | inr y ↦
+            let a : _≡_ {A = Outcome Listing} (refused 1 0) (refused (number-of x) p) = sym (y .1) ∙ e in
+            let n : number-of x ≡ 1 = cc in
+            let z : p ≡ 0 = cc in
+            subst (λ v. Reason cap bs x v) (sym z) (subst (λ v. Reason cap bs v 0) (sym (same-question x TextLength n)) (textLength (y .0)))
+        | inl short ↦ reason cap bs short (number-of x) p (law.reasoned list (listing [] []) (tokens bs) (ends (limited (scan 0 bs))) (ends-limited nothing 0 bs) (number-of x) p (sym (reads-short bs short) ∙ e)) x refl
+      ]
+      | inr y ↦ elim (length-asked bs) [
+        | inr z ↦ absurd (let e : refused 1 0 ≡ accepted (y .0) = sym (z .1) ∙ y .1 in let w : _≡_ {A = ℕ} 0 1 = cc in omega arith)
+        | inl short ↦
+            let d = derived bs short (y .0) (y .1) in
+            let es : y .0 .entries ≡ entriesOf (d .0) = ap (λ (v : Listing). v .entries) (d .2) in
+            subst (λ v. Reason cap bs x v) (sym (y .3)) (subst (λ v. Reason cap bs v (length bs)) (sym (same-question x NodeCount (y .2))) (nodeCount (d .0) (d .1) (subst (λ v. (1024 < length v) ⊎ (cap < length v)) es (y .4))))
+      ]
+    ]
 
 -- every text within the limits is accepted
 pub completes : (cap : ℕ) (bs : List ℕ) (t : tree.Program ℕ) → Limited bs t → Held cap t → answer (outcome cap bs) ≡ count (length (entriesOf t))

@@ -21,16 +21,25 @@ fn read_nodes(text: &[u8], table: &mut [Entry]) -> Result<usize, Refusal>
     ensures { λ r. ⌜ Nodes (now (text .entry)) (now (table .entry)) (now (table .exit)) r ⌝ }
 {
     if text.len() > MAX_TEXT {
-        return Err(Refusal { question: Question::TextLength, place: 0 });
+        return Err(Refusal {
+            question: Question::TextLength,
+            place: 0,
+        });
     }
     let mut parser = Parser::new(text)?;
     parser.program(table)?;
     let count = usize::from(parser.count);
     if count > MAX_NODES {
-        return Err(Refusal { question: Question::NodeCount, place: text.len() });
+        return Err(Refusal {
+            question: Question::NodeCount,
+            place: text.len(),
+        });
     }
     if count > table.len() {
-        return Err(Refusal { question: Question::NodeCount, place: text.len() });
+        return Err(Refusal {
+            question: Question::NodeCount,
+            place: text.len(),
+        });
     }
     Ok(count)
 }

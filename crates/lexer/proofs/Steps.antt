@@ -18,10 +18,10 @@ use Rattle.lexer.specs.Lexemes.{skip, skipIn, inside, gap}
 pub ruleset bools = (ltb-true, ltb-false, leb-true, leb-false, eqb-true, eqb-false)
 
 -- what `more` is in the pattern `[b, more @ ..]`
-abbrev pub behind : List ℕ → List ℕ
+abbrev pub behind : {A : Type 0} → List A → List A
 behind xs = take (length xs - 1) (drop 1 xs)
 
-pub behind-cons : (b : ℕ) (bs : List ℕ) → behind (b ∷ bs) ≡ bs
+pub behind-cons : {A : Type 0} (b : A) (bs : List A) → behind (b ∷ bs) ≡ bs
 behind-cons b bs = let e : length (b ∷ bs) - 1 ≡ length bs = omega arith in ap (λ n. take n bs) e ∙ take-length bs
 
 pub behind-length : (xs : List ℕ) → 0 < length xs → length (behind xs) + 1 ≡ length xs

@@ -16,6 +16,7 @@ use Rattle.lexer.specs.declared.words.ReservedWord.{ReservedWord}
 use Rattle.lexer.specs.Spelling.{lowered, same}
 use Rattle.lexer.specs.Lexemes.{Raw, other, meant, Gap, gap, unclosed, inside, skipIn, skip, number-of}
 
+-- what the program finds, if anything
 abbrev pub meantSome : Option Token → Option Raw
 meantSome (Some t) = Some (meant t)
 meantSome None = None
@@ -34,6 +35,7 @@ abbrev pub findRow : List ℕ → List Row → Option Raw
 findRow w [] = None
 findRow w (x ∷ xs) = cond (same w (x .spelled)) (Some (x .token)) (findRow w xs)
 
+-- a token of the grammar, as it is written
 abbrev pub others : Option Tok → Option Raw
 others (Some t) = Some (other t)
 others None = None

@@ -1,43 +1,42 @@
--- Words are found in two lists as in one, the first list first.
-use mathlib.Core.Path.{_≡_, refl, sym}
+-- The program's table of words holds the reserved words.
+use mathlib.Core.Path.{_≡_, refl}
 use mathlib.Core.Bool.{Bool, true, false, cond}
-use mathlib.Core.List.{List, [], _∷_, _++_}
-use Prim.Native.Nat.{ℕ}
+use mathlib.Core.List.{List, [], _∷_}
+use Prim.Native.Nat.{ℕ, _<_}
 use native.Mathlib.Omega.{arith}
+use lib.ListN.{length, getD}
 use Rattle.std.specs.declared.option.Option.{Option}
 use Rattle.std.specs.declared.option.Option.the-variants.{Some, None}
 use Rattle.grammar.specs.Tokens.{Tok}
-use Rattle.lexer.specs.Spelling.{same}
-use Rattle.lexer.specs.Words.{Word, find, words-f-to-n, words-o-to-t, words-u-to-w, required}
+use Rattle.lexer.specs.declared.words.ReservedWord.{ReservedWord}
+use Rattle.lexer.specs.Spelling.{lowered, same}
+use Rattle.lexer.specs.Words.{Word, find}
 use Rattle.lexer.specs.Lexemes.{Raw, other, wordOr}
-use Rattle.lexer.specs.Found.{others}
+use Rattle.lexer.specs.Found.{others, Row, rows, findRow}
+use Rattle.lexer.proofs.Steps.{behind, behind-cons}
+
+-- the table that would hold these words
+abbrev pub table : List Word → List Row
+table [] = []
+table (x ∷ xs) = record { spelled = x .spelled; token = other (x .token) } ∷ table xs
+
+pub find-table : (w : List ℕ) (xs : List Word) → findRow w (table xs) ≡ others (find w xs)
+find-table w [] = refl
+find-table w (x ∷ xs) = go (same w (x .spelled)) (find-table w xs)
+  where
+    go : (b : Bool) → findRow w (table xs) ≡ others (find w xs) → cond b (Some (other (x .token))) (findRow w (table xs)) ≡ others (cond b (Some (x .token)) (find w xs))
+    go true e = refl
+    go false e = e
 
 pub found : (w : List ℕ) (r : Raw) (o : Option Tok) → Some r ≡ others o → r ≡ wordOr w o
 found w r (Some t) h = cc
 found w r None h = let z : _≡_ {A = ℕ} 0 1 = cc in absurd (omega arith)
 
-pub found-here : (w : List ℕ) (xs ys : List Word) (r : Raw) → Some r ≡ others (find w xs) → Some r ≡ others (find w (xs ++ ys))
-found-here w [] ys r h = let z : _≡_ {A = ℕ} 0 1 = cc in absurd (omega arith)
-found-here w (x ∷ xs) ys r h = go (same w (x .spelled)) (found-here w xs ys r) h
-  where
-    go : (b : Bool) → (Some r ≡ others (find w xs) → Some r ≡ others (find w (xs ++ ys))) → Some r ≡ others (cond b (Some (x .token)) (find w xs)) → Some r ≡ others (cond b (Some (x .token)) (find w (xs ++ ys)))
-    go true on e = e
-    go false on e = on e
+-- the table without its first row, which is spelled otherwise
+pub row-step : (w : List ℕ) (xs : List ReservedWord) (d : ReservedWord) → 0 < length xs → same w (lowered (getD xs 0 d .0 .now)) ≡ false → findRow w (rows (behind xs)) ≡ findRow w (rows xs)
+row-step w [] d h e = absurd (omega arith)
+row-step w (x ∷ xs) d h e = rw (behind-cons x xs, e)
 
-pub found-later : (w : List ℕ) (xs ys : List Word) (r : Raw) → None ≡ others (find w xs) → Some r ≡ others (find w ys) → Some r ≡ others (find w (xs ++ ys))
-found-later w [] ys r h k = k
-found-later w (x ∷ xs) ys r h k = go (same w (x .spelled)) (λ e. found-later w xs ys r e k) h
-  where
-    go : (b : Bool) → (None ≡ others (find w xs) → Some r ≡ others (find w (xs ++ ys))) → None ≡ others (cond b (Some (x .token)) (find w xs)) → Some r ≡ others (cond b (Some (x .token)) (find w (xs ++ ys)))
-    go true on e = let z : _≡_ {A = ℕ} 0 1 = cc in absurd (omega arith)
-    go false on e = on e
-
--- the reserved words without the first groups
-abbrev pub from-u : List Word
-from-u = words-u-to-w ++ required
-
-abbrev pub from-o : List Word
-from-o = words-o-to-t ++ from-u
-
-abbrev pub from-f : List Word
-from-f = words-f-to-n ++ from-o
+pub row-stop : (w : List ℕ) (xs : List ReservedWord) → length xs ≡ 0 → None ≡ findRow w (rows xs)
+row-stop w [] h = refl
+row-stop w (x ∷ xs) h = absurd (omega arith)

@@ -12,16 +12,16 @@ use borrow.Author.Tests.{le-leb, lt-leb, eq-eqb, ne-eqb, ltb-true, ltb-false, le
 use Rattle.lexer.specs.Spelling.{blank, small, lowered, same, run, value, valueFrom}
 use Rattle.std.specs.declared.option.Option.the-variants.{Some, None}
 use Rattle.lexer.specs.Limited.{decimal}
-use Rattle.lexer.specs.Lexemes.{skip, skipIn, inside, gap}
+use Rattle.lexer.specs.Lexemes.{skip, skipIn, inside}
 
 -- what a test of a length or a byte in a pattern tells, for `omega`
 pub ruleset bools = (ltb-true, ltb-false, leb-true, leb-false, eqb-true, eqb-false)
 
 -- what `more` is in the pattern `[b, more @ ..]`
-abbrev pub behind : List ℕ → List ℕ
+abbrev pub behind : {A : Type 0} → List A → List A
 behind xs = take (length xs - 1) (drop 1 xs)
 
-pub behind-cons : (b : ℕ) (bs : List ℕ) → behind (b ∷ bs) ≡ bs
+pub behind-cons : {A : Type 0} (b : A) (bs : List A) → behind (b ∷ bs) ≡ bs
 behind-cons b bs = let e : length (b ∷ bs) - 1 ≡ length bs = omega arith in ap (λ n. take n bs) e ∙ take-length bs
 
 pub behind-length : (xs : List ℕ) → 0 < length xs → length (behind xs) + 1 ≡ length xs
@@ -53,11 +53,6 @@ pub same-step : (xs ys : List ℕ) → 0 < length xs → 0 < length ys → small
 same-step [] ys h k e = absurd (omega arith)
 same-step (x ∷ xs) [] h k e = absurd (omega arith)
 same-step (x ∷ xs) (y ∷ ys) h k e = rw (behind-cons x xs, behind-cons y ys, eq-eqb (small x) (small y) e)
-
-pub differ-step : (xs ys : List ℕ) → 0 < length xs → 0 < length ys → (small (getD xs 0 0) ≡ small (getD ys 0 0) → ⊥) → same (lowered xs) (lowered ys) ≡ false
-differ-step [] ys h k e = absurd (omega arith)
-differ-step (x ∷ xs) [] h k e = absurd (omega arith)
-differ-step (x ∷ xs) (y ∷ ys) h k e = rw (ne-eqb (small x) (small y) e)
 
 pub same-none : (xs ys : List ℕ) → length xs ≡ 0 → length ys ≡ 0 → same (lowered xs) (lowered ys) ≡ true
 same-none [] [] h k = refl

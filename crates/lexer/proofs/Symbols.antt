@@ -13,12 +13,12 @@ use Rattle.std.specs.declared.option.Option.the-variants.{Some, None}
 use Rattle.grammar.specs.Tokens.{Tok, mark}
 use Rattle.grammar.specs.declared.symbols.Mark.the-variants.{Becomes}
 use Rattle.lexer.specs.Words.{symbol}
-use Rattle.lexer.specs.Lexemes.{Raw, other, lexeme, none, symbolAt, symbolOr}
+use Rattle.lexer.specs.Lexemes.{Raw, other, lexeme, symbolAt, symbolOr}
 use Rattle.lexer.specs.Found.{others}
 use Rattle.lexer.proofs.Steps.{behind, behind-cons}
 
 -- what `rest` is in the pattern `[_, _, rest @ ..]`
-pub behind-two : (a b : ℕ) (bs : List ℕ) → take (length (a ∷ b ∷ bs) - 2) (drop 2 (a ∷ b ∷ bs)) ≡ bs
+behind-two : (a b : ℕ) (bs : List ℕ) → take (length (a ∷ b ∷ bs) - 2) (drop 2 (a ∷ b ∷ bs)) ≡ bs
 behind-two a b bs = let e : length (a ∷ b ∷ bs) - 2 ≡ length bs = omega arith in ap (λ n. take n bs) e ∙ take-length bs
 
 pub becomes-step : (p : ℕ) (xs : List ℕ) → 1 < length xs → getD xs 0 0 ≡ 58 → getD xs 1 0 ≡ 61 → lexeme (other (mark Becomes)) p (p + 2) (take (length xs - 2) (drop 2 xs)) ≡ symbolAt p xs
@@ -46,7 +46,3 @@ symbol-step p (b ∷ d ∷ bs) h a = rw (behind-cons b (d ∷ bs), not-becomes b
 pub symbol-found : (p : ℕ) (bs : List ℕ) (r : Raw) (o : Option Tok) → Some r ≡ others o → lexeme r p (p + 1) bs ≡ symbolOr p bs o
 symbol-found p bs r (Some t) h = let e : r ≡ other t = cc in rw e
 symbol-found p bs r None h = let z : _≡_ {A = ℕ} 0 1 = cc in absurd (omega arith)
-
-pub symbol-missing : (p : ℕ) (bs : List ℕ) (o : Option Tok) → None ≡ others o → none 2 p ≡ symbolOr p bs o
-symbol-missing p bs (Some t) h = let z : _≡_ {A = ℕ} 0 1 = cc in absurd (omega arith)
-symbol-missing p bs None h = refl

@@ -1,6 +1,6 @@
 -- The words that are never names: the 35 word symbols of ISO 7185, and integer, boolean, true, false, read, write, round.
 use mathlib.Core.Bool.{Bool, true, false, cond}
-use mathlib.Core.List.{List, [], _∷_, _++_}
+use mathlib.Core.List.{List, [], _∷_}
 use Prim.Native.Nat.{ℕ}
 use lib.Chars.{codes}
 use lib.Dec.{eqb}
@@ -26,57 +26,43 @@ pub record Word : Type 0 where
 abbrev pub word : List ℕ → Tok → Word
 word w t = record { spelled = w; token = t }
 
--- the word symbols, by their first letters
-abbrev pub words-a-to-e : List Word
-words-a-to-e =
+abbrev pub reserved : List Word
+reserved =
     word (codes "and") (op (Mul And)) ∷
-    word (codes "array") unused ∷
+    word (codes "array") (unused) ∷
     word (codes "begin") (start Begin) ∷
-    word (codes "case") unused ∷
-    word (codes "const") unused ∷
+    word (codes "case") (unused) ∷
+    word (codes "const") (unused) ∷
     word (codes "div") (op (Mul Div)) ∷
     word (codes "do") (mark Do) ∷
-    word (codes "downto") unused ∷
-    word (codes "else") else′ ∷
-    word (codes "end") (mark End) ∷ []
-
-abbrev pub words-f-to-n : List Word
-words-f-to-n =
-    word (codes "file") unused ∷
-    word (codes "for") unused ∷
-    word (codes "function") unused ∷
-    word (codes "goto") unused ∷
+    word (codes "downto") (unused) ∷
+    word (codes "else") (else′) ∷
+    word (codes "end") (mark End) ∷
+    word (codes "file") (unused) ∷
+    word (codes "for") (unused) ∷
+    word (codes "function") (unused) ∷
+    word (codes "goto") (unused) ∷
     word (codes "if") (start If) ∷
-    word (codes "in") unused ∷
-    word (codes "label") unused ∷
-    word (codes "mod") unused ∷
-    word (codes "nil") unused ∷
-    word (codes "not") (pre Not) ∷ []
-
-abbrev pub words-o-to-t : List Word
-words-o-to-t =
-    word (codes "of") unused ∷
+    word (codes "in") (unused) ∷
+    word (codes "label") (unused) ∷
+    word (codes "mod") (unused) ∷
+    word (codes "nil") (unused) ∷
+    word (codes "not") (pre Not) ∷
+    word (codes "of") (unused) ∷
     word (codes "or") (op (Add Or)) ∷
-    word (codes "packed") unused ∷
-    word (codes "procedure") unused ∷
+    word (codes "packed") (unused) ∷
+    word (codes "procedure") (unused) ∷
     word (codes "program") (mark Program) ∷
-    word (codes "record") unused ∷
-    word (codes "repeat") unused ∷
-    word (codes "set") unused ∷
+    word (codes "record") (unused) ∷
+    word (codes "repeat") (unused) ∷
+    word (codes "set") (unused) ∷
     word (codes "then") (mark Then) ∷
-    word (codes "to") unused ∷
-    word (codes "type") unused ∷ []
-
-abbrev pub words-u-to-w : List Word
-words-u-to-w =
-    word (codes "until") unused ∷
+    word (codes "to") (unused) ∷
+    word (codes "type") (unused) ∷
+    word (codes "until") (unused) ∷
     word (codes "var") (mark Var) ∷
     word (codes "while") (start While) ∷
-    word (codes "with") unused ∷ []
-
--- the required identifiers of ISO 7185 that are reserved here
-abbrev pub required : List Word
-required =
+    word (codes "with") (unused) ∷
     word (codes "integer") (ty Integer) ∷
     word (codes "boolean") (ty Boolean) ∷
     word (codes "true") (lit (Truth true)) ∷
@@ -84,9 +70,6 @@ required =
     word (codes "read") (start Read) ∷
     word (codes "write") (start Write) ∷
     word (codes "round") (pre Round) ∷ []
-
-abbrev pub reserved : List Word
-reserved = words-a-to-e ++ (words-f-to-n ++ (words-o-to-t ++ (words-u-to-w ++ required)))
 
 -- the first of the words that is spelled so
 abbrev pub find : List ℕ → List Word → Option Tok

@@ -83,6 +83,7 @@ pub(crate) fn run_length(text: &[u8], class: Class) -> usize
     n
 }
 
+// The largest number that a text may hold.
 const LARGEST: u64 = 2147483647;
 
 // The number that the digits spell, or nothing where it is too large.

@@ -1,9 +1,9 @@
-// Words that are never names, and the comparison of words.
+// Words: which are never names, and which are the same.
 ghost use mathlib.Core.Path.{_≡_};
 ghost use Rattle.lexer.specs.Spelling.{lowered, same};
-ghost use Rattle.lexer.specs.Words.{find, words-a-to-e, words-f-to-n, words-o-to-t, words-u-to-w, required};
 ghost use Rattle.lexer.specs.Lexemes.{meant, keyword};
-ghost use Rattle.lexer.specs.Found.{meantSome, others};
+ghost use Rattle.lexer.specs.Words.{find, reserved};
+ghost use Rattle.lexer.specs.Found.{meantSome, others, rows, findRow};
 use crate::bytes::lowered;
 use crate::token::Token;
 use grammar::symbols::Adding;
@@ -35,146 +35,81 @@ pub fn same_word(a: &[u8], b: &[u8]) -> bool
     }
 }
 
-// The tokens of the word symbols, by their first letters.
-fn words_a_to_e(word: &[u8]) -> Option<Token<'static>>
-    ensures { λ r. ⌜ meantSome r ≡ others (find (lowered (now (word .entry))) words-a-to-e) ⌝ }
+// A word that is never a name, in small letters, and its token.
+#[derive(Clone, Copy)]
+struct ReservedWord(&'static [u8], Token<'static>);
+
+const RESERVED: [ReservedWord; 42] = [
+    ReservedWord(b"and", Token::Operator(Operator::Mul(Multiplying::And))),
+    ReservedWord(b"array", Token::Unused),
+    ReservedWord(b"begin", Token::Start(Start::Begin)),
+    ReservedWord(b"case", Token::Unused),
+    ReservedWord(b"const", Token::Unused),
+    ReservedWord(b"div", Token::Operator(Operator::Mul(Multiplying::Div))),
+    ReservedWord(b"do", Token::Mark(Mark::Do)),
+    ReservedWord(b"downto", Token::Unused),
+    ReservedWord(b"else", Token::Else),
+    ReservedWord(b"end", Token::Mark(Mark::End)),
+    ReservedWord(b"file", Token::Unused),
+    ReservedWord(b"for", Token::Unused),
+    ReservedWord(b"function", Token::Unused),
+    ReservedWord(b"goto", Token::Unused),
+    ReservedWord(b"if", Token::Start(Start::If)),
+    ReservedWord(b"in", Token::Unused),
+    ReservedWord(b"label", Token::Unused),
+    ReservedWord(b"mod", Token::Unused),
+    ReservedWord(b"nil", Token::Unused),
+    ReservedWord(b"not", Token::Prefix(Prefix::Not)),
+    ReservedWord(b"of", Token::Unused),
+    ReservedWord(b"or", Token::Operator(Operator::Add(Adding::Or))),
+    ReservedWord(b"packed", Token::Unused),
+    ReservedWord(b"procedure", Token::Unused),
+    ReservedWord(b"program", Token::Mark(Mark::Program)),
+    ReservedWord(b"record", Token::Unused),
+    ReservedWord(b"repeat", Token::Unused),
+    ReservedWord(b"set", Token::Unused),
+    ReservedWord(b"then", Token::Mark(Mark::Then)),
+    ReservedWord(b"to", Token::Unused),
+    ReservedWord(b"type", Token::Unused),
+    ReservedWord(b"until", Token::Unused),
+    ReservedWord(b"var", Token::Mark(Mark::Var)),
+    ReservedWord(b"while", Token::Start(Start::While)),
+    ReservedWord(b"with", Token::Unused),
+    ReservedWord(b"integer", Token::TypeName(SimpleType::Integer)),
+    ReservedWord(b"boolean", Token::TypeName(SimpleType::Boolean)),
+    ReservedWord(b"true", Token::Truth(true)),
+    ReservedWord(b"false", Token::Truth(false)),
+    ReservedWord(b"read", Token::Start(Start::Read)),
+    ReservedWord(b"write", Token::Start(Start::Write)),
+    ReservedWord(b"round", Token::Prefix(Prefix::Round)),
+];
+
+// The token of the first of the words that is spelled as `word` is.
+fn look_up(word: &[u8], words: &[ReservedWord]) -> Option<Token<'static>>
+    ensures { λ r. ⌜ meantSome r ≡ findRow (lowered (now (word .entry))) (rows (now (words .entry))) ⌝ }
 {
-    if same_word(word, b"and") {
-        Some(Token::Operator(Operator::Mul(Multiplying::And)))
-    } else if same_word(word, b"array") {
-        Some(Token::Unused)
-    } else if same_word(word, b"begin") {
-        Some(Token::Start(Start::Begin))
-    } else if same_word(word, b"case") {
-        Some(Token::Unused)
-    } else if same_word(word, b"const") {
-        Some(Token::Unused)
-    } else if same_word(word, b"div") {
-        Some(Token::Operator(Operator::Mul(Multiplying::Div)))
-    } else if same_word(word, b"do") {
-        Some(Token::Mark(Mark::Do))
-    } else if same_word(word, b"downto") {
-        Some(Token::Unused)
-    } else if same_word(word, b"else") {
-        Some(Token::Else)
-    } else if same_word(word, b"end") {
-        Some(Token::Mark(Mark::End))
-    } else {
-        None
+    let mut rest = words;
+    while let [first, more @ ..] = rest {
+        if same_word(word, first.0) {
+            return Some(first.1);
+        }
+        rest = more;
     }
+    None
 }
 
-fn words_f_to_n(word: &[u8]) -> Option<Token<'static>>
-    ensures { λ r. ⌜ meantSome r ≡ others (find (lowered (now (word .entry))) words-f-to-n) ⌝ }
+fn reserved_token(word: &[u8]) -> Option<Token<'static>>
+    ensures { λ r. ⌜ meantSome r ≡ others (find (lowered (now (word .entry))) reserved) ⌝ }
 {
-    if same_word(word, b"file") {
-        Some(Token::Unused)
-    } else if same_word(word, b"for") {
-        Some(Token::Unused)
-    } else if same_word(word, b"function") {
-        Some(Token::Unused)
-    } else if same_word(word, b"goto") {
-        Some(Token::Unused)
-    } else if same_word(word, b"if") {
-        Some(Token::Start(Start::If))
-    } else if same_word(word, b"in") {
-        Some(Token::Unused)
-    } else if same_word(word, b"label") {
-        Some(Token::Unused)
-    } else if same_word(word, b"mod") {
-        Some(Token::Unused)
-    } else if same_word(word, b"nil") {
-        Some(Token::Unused)
-    } else if same_word(word, b"not") {
-        Some(Token::Prefix(Prefix::Not))
-    } else {
-        None
-    }
-}
-
-fn words_o_to_t(word: &[u8]) -> Option<Token<'static>>
-    ensures { λ r. ⌜ meantSome r ≡ others (find (lowered (now (word .entry))) words-o-to-t) ⌝ }
-{
-    if same_word(word, b"of") {
-        Some(Token::Unused)
-    } else if same_word(word, b"or") {
-        Some(Token::Operator(Operator::Add(Adding::Or)))
-    } else if same_word(word, b"packed") {
-        Some(Token::Unused)
-    } else if same_word(word, b"procedure") {
-        Some(Token::Unused)
-    } else if same_word(word, b"program") {
-        Some(Token::Mark(Mark::Program))
-    } else if same_word(word, b"record") {
-        Some(Token::Unused)
-    } else if same_word(word, b"repeat") {
-        Some(Token::Unused)
-    } else if same_word(word, b"set") {
-        Some(Token::Unused)
-    } else if same_word(word, b"then") {
-        Some(Token::Mark(Mark::Then))
-    } else if same_word(word, b"to") {
-        Some(Token::Unused)
-    } else if same_word(word, b"type") {
-        Some(Token::Unused)
-    } else {
-        None
-    }
-}
-
-fn words_u_to_w(word: &[u8]) -> Option<Token<'static>>
-    ensures { λ r. ⌜ meantSome r ≡ others (find (lowered (now (word .entry))) words-u-to-w) ⌝ }
-{
-    if same_word(word, b"until") {
-        Some(Token::Unused)
-    } else if same_word(word, b"var") {
-        Some(Token::Mark(Mark::Var))
-    } else if same_word(word, b"while") {
-        Some(Token::Start(Start::While))
-    } else if same_word(word, b"with") {
-        Some(Token::Unused)
-    } else {
-        None
-    }
-}
-
-fn required_identifier(word: &[u8]) -> Option<Token<'static>>
-    ensures { λ r. ⌜ meantSome r ≡ others (find (lowered (now (word .entry))) required) ⌝ }
-{
-    if same_word(word, b"integer") {
-        Some(Token::TypeName(SimpleType::Integer))
-    } else if same_word(word, b"boolean") {
-        Some(Token::TypeName(SimpleType::Boolean))
-    } else if same_word(word, b"true") {
-        Some(Token::Truth(true))
-    } else if same_word(word, b"false") {
-        Some(Token::Truth(false))
-    } else if same_word(word, b"read") {
-        Some(Token::Start(Start::Read))
-    } else if same_word(word, b"write") {
-        Some(Token::Start(Start::Write))
-    } else if same_word(word, b"round") {
-        Some(Token::Prefix(Prefix::Round))
-    } else {
-        None
-    }
+    look_up(word, &RESERVED)
 }
 
 // A word is reserved or a name.
 pub(crate) fn word_token<'a>(word: &'a [u8]) -> Token<'a>
     ensures { λ r. ⌜ meant r ≡ keyword (now (word .entry)) ⌝ }
 {
-    if let Some(token) = words_a_to_e(word) {
-        token
-    } else if let Some(token) = words_f_to_n(word) {
-        token
-    } else if let Some(token) = words_o_to_t(word) {
-        token
-    } else if let Some(token) = words_u_to_w(word) {
-        token
-    } else if let Some(token) = required_identifier(word) {
-        token
-    } else {
-        Token::Name(word)
+    match reserved_token(word) {
+        Some(token) => token,
+        None => Token::Name(word),
     }
 }

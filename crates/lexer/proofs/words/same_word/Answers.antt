@@ -1,8 +1,7 @@
-use mathlib.Core.Path.{_≡_, sym, ap, _∙_}
+use mathlib.Core.Path.{_≡_, sym, _∙_}
 use Prim.Native.Nat.{_<_}
 use native.Mathlib.Omega.{arith}
-use lib.ListN.{length, getD}
-use Rattle.lexer.specs.Spelling.{small}
+use lib.ListN.{length}
 use Rattle.lexer.proofs.Steps.{bools, same-step, same-none, longer-left, longer-right}
 use Rattle.lexer.proofs.words.same_word.Needs as need
 

@@ -107,60 +107,60 @@ limits (negsuc n) = record {
 }
 
 -- a result whose number is in the range
-abbrev pub Fine : Result ℤ Cause → Type 0
-Fine (Ok z) = inRange z ≡ true
-Fine (Err e) = Unit {0}
+abbrev pub Bounded : Result ℤ Cause → Type 0
+Bounded (Ok z) = inRange z ≡ true
+Bounded (Err e) = Unit {0}
 
--- a result that blames no divisor
-abbrev pub Blameless : Result ℤ Cause → Type 0
-Blameless (Ok z) = Unit {0}
-Blameless (Err Range) = Unit {0}
-Blameless (Err ZeroDivisor) = ⊥
+-- a result other than the cause of a zero divisor
+abbrev pub NotZero : Result ℤ Cause → Type 0
+NotZero (Ok z) = Unit {0}
+NotZero (Err Range) = Unit {0}
+NotZero (Err ZeroDivisor) = ⊥
 
-fine-ranged : (z : ℤ) → Fine (ranged z)
-fine-ranged z = by (inRange z) refl
+bounded-ranged : (z : ℤ) → Bounded (ranged z)
+bounded-ranged z = by (inRange z) refl
   where
-    by : (t : Bool) → inRange z ≡ t → Fine (cond t (Ok z) (Err Range))
+    by : (t : Bool) → inRange z ≡ t → Bounded (cond t (Ok z) (Err Range))
     by true i = i
     by false i = tt
 
-fine-bit : (b : Bool) → Fine (Ok (bit b))
-fine-bit true = refl
-fine-bit false = refl
+bounded-bit : (b : Bool) → Bounded (Ok (bit b))
+bounded-bit true = refl
+bounded-bit false = refl
 
-fine-unless : (t : Bool) (z : ℤ) → Fine (cond t (Err ZeroDivisor) (ranged z))
-fine-unless true z = tt
-fine-unless false z = fine-ranged z
+bounded-unless : (t : Bool) (z : ℤ) → Bounded (cond t (Err ZeroDivisor) (ranged z))
+bounded-unless true z = tt
+bounded-unless false z = bounded-ranged z
 
-fine-unary : (o : Unary) (a : ℤ) → Fine (unary o a)
-fine-unary Negate a = fine-ranged (negℤ a)
-fine-unary Not a = fine-bit (isZero a)
+bounded-unary : (o : Unary) (a : ℤ) → Bounded (unary o a)
+bounded-unary Negate a = bounded-ranged (negℤ a)
+bounded-unary Not a = bounded-bit (isZero a)
 
-fine-binary : (o : Binary) (a b : ℤ) → Fine (binary o a b)
-fine-binary Add a b = fine-ranged (a +ℤ b)
-fine-binary Subtract a b = fine-ranged (a -ℤ b)
-fine-binary Multiply a b = fine-ranged (a *ℤ b)
-fine-binary Divide a b = fine-unless (isZero b) (quotZ a b)
-fine-binary Round a b = fine-unless (isZero b) (nearest a b)
-fine-binary Less a b = fine-bit (ltZ a b)
-fine-binary Greater a b = fine-bit (ltZ b a)
-fine-binary Equal a b = fine-bit (isZero (a -ℤ b))
-fine-binary And a b = fine-bit (not (isZero a) && not (isZero b))
-fine-binary Or a b = fine-bit (not (isZero a) || not (isZero b))
+bounded-binary : (o : Binary) (a b : ℤ) → Bounded (binary o a b)
+bounded-binary Add a b = bounded-ranged (a +ℤ b)
+bounded-binary Subtract a b = bounded-ranged (a -ℤ b)
+bounded-binary Multiply a b = bounded-ranged (a *ℤ b)
+bounded-binary Divide a b = bounded-unless (isZero b) (quotZ a b)
+bounded-binary Round a b = bounded-unless (isZero b) (nearest a b)
+bounded-binary Less a b = bounded-bit (ltZ a b)
+bounded-binary Greater a b = bounded-bit (ltZ b a)
+bounded-binary Equal a b = bounded-bit (isZero (a -ℤ b))
+bounded-binary And a b = bounded-bit (not (isZero a) && not (isZero b))
+bounded-binary Or a b = bounded-bit (not (isZero a) || not (isZero b))
 
 pub kept : Kept
-kept = record { one = λ o a z e. subst Fine e (fine-unary o a); two = λ o a b z e. subst Fine e (fine-binary o a b) }
+kept = record { one = λ o a z e. subst Bounded e (bounded-unary o a); two = λ o a b z e. subst Bounded e (bounded-binary o a b) }
 
-blameless-ranged : (z : ℤ) → Blameless (ranged z)
-blameless-ranged z = by (inRange z)
+not-zero-ranged : (z : ℤ) → NotZero (ranged z)
+not-zero-ranged z = by (inRange z)
   where
-    by : (t : Bool) → Blameless (cond t (Ok z) (Err Range))
+    by : (t : Bool) → NotZero (cond t (Ok z) (Err Range))
     by true = tt
     by false = tt
 
-blameless-unary : (o : Unary) (a : ℤ) → Blameless (unary o a)
-blameless-unary Negate a = blameless-ranged (negℤ a)
-blameless-unary Not a = tt
+not-zero-unary : (o : Unary) (a : ℤ) → NotZero (unary o a)
+not-zero-unary Negate a = not-zero-ranged (negℤ a)
+not-zero-unary Not a = tt
 
 zero-is : (b : ℤ) → isZero b ≡ true → b ≡ pos 0
 zero-is (pos n) h = ap pos (eqb-true n 0 h)
@@ -171,22 +171,22 @@ by-zero b z e = by (isZero b) refl e
   where
     by : (t : Bool) → isZero b ≡ t → cond t (Err ZeroDivisor) (ranged z) ≡ Err ZeroDivisor → b ≡ pos 0
     by true i f = zero-is b i
-    by false i f = absurd (subst Blameless f (blameless-ranged z))
+    by false i f = absurd (subst NotZero f (not-zero-ranged z))
 
 only-zero : (o : Binary) (a b : ℤ) → binary o a b ≡ Err ZeroDivisor → (b ≡ pos 0) × ((o ≡ Divide) ⊎ (o ≡ Round))
-only-zero Add a b e = absurd (subst Blameless e (blameless-ranged (a +ℤ b)))
-only-zero Subtract a b e = absurd (subst Blameless e (blameless-ranged (a -ℤ b)))
-only-zero Multiply a b e = absurd (subst Blameless e (blameless-ranged (a *ℤ b)))
+only-zero Add a b e = absurd (subst NotZero e (not-zero-ranged (a +ℤ b)))
+only-zero Subtract a b e = absurd (subst NotZero e (not-zero-ranged (a -ℤ b)))
+only-zero Multiply a b e = absurd (subst NotZero e (not-zero-ranged (a *ℤ b)))
 only-zero Divide a b e = (by-zero b (quotZ a b) e, inl refl)
 only-zero Round a b e = (by-zero b (nearest a b) e, inr refl)
-only-zero Less a b e = absurd (subst Blameless e tt)
-only-zero Greater a b e = absurd (subst Blameless e tt)
-only-zero Equal a b e = absurd (subst Blameless e tt)
-only-zero And a b e = absurd (subst Blameless e tt)
-only-zero Or a b e = absurd (subst Blameless e tt)
+only-zero Less a b e = absurd (subst NotZero e tt)
+only-zero Greater a b e = absurd (subst NotZero e tt)
+only-zero Equal a b e = absurd (subst NotZero e tt)
+only-zero And a b e = absurd (subst NotZero e tt)
+only-zero Or a b e = absurd (subst NotZero e tt)
 
 pub zeros : Zeros
-zeros = record { divide = λ a. refl; round = λ a. refl; never = λ o a e. subst Blameless e (blameless-unary o a); only = only-zero }
+zeros = record { divide = λ a. refl; round = λ a. refl; never = λ o a e. subst NotZero e (not-zero-unary o a); only = only-zero }
 
 is-bit : (b : Bool) → Bit (Ok (bit b))
 is-bit true = inr refl

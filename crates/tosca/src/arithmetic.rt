@@ -1,6 +1,6 @@
 // The one arithmetic: what an operator gives, or the cause why there is none.
 ghost use mathlib.Core.Path.{_≡_};
-ghost use Prim.Native.Nat.{_+_, _*_, _/_, _^_, _<_, _≤_};
+ghost use Prim.Native.Nat.{_+_, _*_, _/_, _^_, _<_};
 ghost use Rattle.tosca.specs.Arithmetic.{unary, binary, signed, causeNumber};
 use crate::operators::Binary;
 use crate::operators::Cause;
@@ -71,15 +71,16 @@ fn round(a: i32, b: i32) -> Result<i32, Cause>
 }
 
 // The nearest integer to n / d, halves upward.
-fn rounded_size(n: u32, d: u32) -> u32
-    requires { ⌜ 0 < d ⌝ ∗ ⌜ n ≤ 2 ^ 31 ⌝ }
+fn rounded_size(n: u32, d: u32) -> u64
+    requires { ⌜ 0 < d ⌝ }
     ensures { λ r. ⌜ r ≡ (2 * n + d) / (2 * d) ⌝ }
 {
-    ((2 * n as u64 + d as u64) / (2 * d as u64)) as u32
+    (2 * n as u64 + d as u64) / (2 * d as u64)
 }
 
 // A size with the sign of a / b.
-fn with_sign(a: i32, b: i32, size: u32) -> i64
+fn with_sign(a: i32, b: i32, size: u64) -> i64
+    requires { ⌜ size < 2 ^ 63 ⌝ }
     ensures { λ r. ⌜ r ≡ signed a b size ⌝ }
 {
     if (a < 0) == (b < 0) {

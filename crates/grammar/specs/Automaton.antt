@@ -45,7 +45,7 @@ pub data Move (S : Type 0) : Type 0 where
   stuck : Move S
   go : List Sym → S → Move S
 
--- what is open
+-- how many openers are open
 abbrev pub marks : List Sym → ℕ
 marks [] = 0
 marks (leave ∷ K) = suc (marks K)
@@ -236,7 +236,7 @@ module _ {S : Type 0} (act : Act → S → S) where
   settle (names ns ∷ K) s = no
   settle (type ns ∷ K) s = no
 
--- what Becomes of a run: at its end, at a refused token, and at each token that is read, with its depth
+-- what becomes of a run: at its end, at a refused token, and at each token that is read, with its depth
 pub record Watch (S A : Type 0) : Type 0 where
   pub ends : Seen S → A
   pub stops : Item → List Item → A

@@ -52,7 +52,7 @@ number-of Depth = 6
 number-of NameCount = 7
 number-of NodeCount = 8
 
--- where blanks and comments end, or the number and place of a refusal
+-- where blanks and comments end, or the place of a comment that is not closed
 pub data Gap : Type 0 where
   gap : ℕ → List ℕ → Gap
   unclosed : ℕ → Gap

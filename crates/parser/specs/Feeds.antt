@@ -47,7 +47,7 @@ next p = tok (knownOf (p .names)) (meant (p .token))
 abbrev pub unread : Parser → ℕ
 unread p = length (ahead p .tokens)
 
--- places stay small, at most 64 names are known, the next token has kept the limits of its length, and a node or two for each unread token can be counted
+-- places stay small, at most 64 names are known, the next token has kept the limits of its length, and two nodes for each unread token can be counted: 40,000 is above twice the tokens of a text of 16,384 bytes
 pub record Ready (p : Parser) : Type 0 where
   pub near : p .place ≤ 16384
   pub within : p .after + length (p .rest .now) ≤ 16384

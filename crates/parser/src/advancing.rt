@@ -46,7 +46,7 @@ impl<'a> Parser<'a> {
     }
 
     // The refusal of the next token.
-    pub fn refuse(&self, question: Question) -> Refusal
+    pub(crate) fn refuse(&self, question: Question) -> Refusal
         ensures { λ r. ⌜ r ≡ refuses question (now (self .entry) .place) ⌝ }
     {
         Refusal {
@@ -55,7 +55,7 @@ impl<'a> Parser<'a> {
         }
     }
 
-    // Reads the token after the next one in its place; names and nodes stay as they are.
+    // Replaces the next token by the one after it; names and nodes stay as they are.
     fn fetch(&mut self) -> Result<(), Refusal>
         requires { ⌜ now self .after + length (now (now self .rest)) ≤ 16384 ⌝ ∗ ⌜ isStop (meant (now self .token)) ≡ false ⌝ }
         ensures { λ r. ⌜ Fetches (now (self .entry)) (now (self .exit)) r ⌝ }
@@ -69,7 +69,7 @@ impl<'a> Parser<'a> {
     }
 
     // Goes on to the next token, from any but a name and the end.
-    pub fn advance(&mut self) -> Result<(), Refusal>
+    pub(crate) fn advance(&mut self) -> Result<(), Refusal>
         requires { ⌜ Ready (now self) ⌝ ∗ ⌜ plain (meant (now self .token)) ≡ true ⌝ }
         ensures { λ r. ⌜ Advanced (now (self .entry)) (next (now (self .entry))) (now (self .exit)) r ⌝ }
     {
@@ -77,7 +77,7 @@ impl<'a> Parser<'a> {
     }
 
     // Reads a name, and gives its number; the program's own has none, and gets 0.
-    pub fn name(&mut self) -> Result<u16, Refusal>
+    pub(crate) fn name(&mut self) -> Result<u16, Refusal>
         requires { ⌜ Ready (now self) ⌝ }
         ensures { λ r. ⌜ Named (now (self .entry)) (now (self .exit)) r ⌝ }
     {
@@ -92,7 +92,7 @@ impl<'a> Parser<'a> {
     }
 
     // Whether the next token is this mark.
-    pub fn is_at(&self, mark: Mark) -> bool
+    pub(crate) fn is_at(&self, mark: Mark) -> bool
         ensures { λ r. ⌜ r ≡ isMark mark (next (now (self .entry))) ⌝ }
     {
         match self.token {
@@ -102,7 +102,7 @@ impl<'a> Parser<'a> {
     }
 
     // Reads the mark, which alone may stand here.
-    pub fn expect(&mut self, mark: Mark) -> Result<(), Refusal>
+    pub(crate) fn expect(&mut self, mark: Mark) -> Result<(), Refusal>
         requires { ⌜ Ready (now self) ⌝ ∗ ⌜ same mark Stop ≡ false ⌝ }
         ensures { λ r. ⌜ Expected mark (now (self .entry)) (now (self .exit)) r ⌝ }
     {
@@ -113,7 +113,7 @@ impl<'a> Parser<'a> {
     }
 
     // The next token as an operator of one precedence.
-    pub fn multiplying(&self) -> Option<Multiplying>
+    pub(crate) fn multiplying(&self) -> Option<Multiplying>
         ensures { λ r. ⌜ seen r ≡ asMul (next (now (self .entry))) ⌝ }
     {
         match self.token {
@@ -122,7 +122,7 @@ impl<'a> Parser<'a> {
         }
     }
 
-    pub fn adding(&self) -> Option<Adding>
+    pub(crate) fn adding(&self) -> Option<Adding>
         ensures { λ r. ⌜ seen r ≡ asAdd (next (now (self .entry))) ⌝ }
     {
         match self.token {
@@ -131,7 +131,7 @@ impl<'a> Parser<'a> {
         }
     }
 
-    pub fn relation(&self) -> Option<Relation>
+    pub(crate) fn relation(&self) -> Option<Relation>
         ensures { λ r. ⌜ seen r ≡ asRel (next (now (self .entry))) ⌝ }
     {
         match self.token {
@@ -141,7 +141,7 @@ impl<'a> Parser<'a> {
     }
 
     // One deeper, for an opener that is the next token.
-    pub fn deeper(&self, depth: usize) -> Result<usize, Refusal>
+    pub(crate) fn deeper(&self, depth: usize) -> Result<usize, Refusal>
         ensures { λ r. ⌜ Deepened depth (now (self .entry)) r ⌝ }
     {
         if depth >= MAX_DEPTH {
@@ -151,7 +151,7 @@ impl<'a> Parser<'a> {
     }
 
     // Lists a node, or only counts it where the table is full, and gives its number.
-    pub fn emit(&mut self, table: &mut [Entry], node: Node, place: usize) -> u16
+    pub(crate) fn emit(&mut self, table: &mut [Entry], node: Node, place: usize) -> u16
         requires { ⌜ now self .count < 65535 ⌝ ∗ ⌜ place ≤ 16384 ⌝ }
         ensures { λ r. ⌜ Listed (now (self .entry)) (now (table .entry)) node place r (now (self .exit)) (now (table .exit)) ⌝ }
     {

@@ -19,7 +19,7 @@ use tosca::table::Node;
 
 impl<'a> Parser<'a> {
     // A command; where none begins, it is the empty one.
-    pub fn cmd(&mut self, table: &mut [Entry], depth: usize) -> Result<u16, Refusal>
+    pub(crate) fn cmd(&mut self, table: &mut [Entry], depth: usize) -> Result<u16, Refusal>
         requires { ⌜ Ready (now self) ⌝ ∗ ⌜ depth ≤ 32 ⌝ ∗ ⌜ Roomy (now self) ⌝ }
         ensures less { λ r. ⌜ Less 1 (now (self .entry)) (now (self .exit)) r ⌝ }
         ensures is { λ r. ⌜ Parsed cmd depth (now (self .entry)) (now (table .entry)) (now (self .exit)) (now (table .exit)) r ⌝ }
@@ -38,7 +38,7 @@ impl<'a> Parser<'a> {
     }
 
     // cmd {; cmd} end
-    pub fn cmds(&mut self, table: &mut [Entry], depth: usize) -> Result<u16, Refusal>
+    pub(crate) fn cmds(&mut self, table: &mut [Entry], depth: usize) -> Result<u16, Refusal>
         requires { ⌜ Ready (now self) ⌝ ∗ ⌜ depth ≤ 32 ⌝ ∗ ⌜ Roomy (now self) ⌝ }
         ensures less { λ r. ⌜ Less 0 (now (self .entry)) (now (self .exit)) r ⌝ }
         ensures is { λ r. ⌜ Takes (λ L. cmd ∷ cmds ∷ L) (λ L. L) depth (now (self .entry)) (now (table .entry)) (now (self .exit)) (now (table .exit)) r ⌝ }

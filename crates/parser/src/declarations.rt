@@ -30,7 +30,7 @@ fn retype(table: &mut [Entry], first: u16, last: u16, typ: SimpleType)
 
 impl<'a> Parser<'a> {
     // [var declaration {declaration}] begin
-    pub fn declarations(&mut self, table: &mut [Entry]) -> Result<(), Refusal>
+    pub(crate) fn declarations(&mut self, table: &mut [Entry]) -> Result<(), Refusal>
         requires { ⌜ Ready (now self) ⌝ }
         ensures less { λ r. ⌜ Used (now (self .entry)) (now (self .exit)) r ⌝ }
         ensures is { λ r. ⌜ Passes (λ L. vars ∷ L) body (now (self .entry)) (now (table .entry)) (now (self .exit)) (now (table .exit)) r ⌝ }

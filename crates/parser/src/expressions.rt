@@ -23,7 +23,7 @@ use tosca::table::Node;
 
 impl<'a> Parser<'a> {
     // simple [(= | < | >) simple]
-    pub fn expr(&mut self, table: &mut [Entry], depth: usize) -> Result<u16, Refusal>
+    pub(crate) fn expr(&mut self, table: &mut [Entry], depth: usize) -> Result<u16, Refusal>
         requires { ⌜ Ready (now self) ⌝ ∗ ⌜ depth ≤ 32 ⌝ }
         ensures less { λ r. ⌜ Less 0 (now (self .entry)) (now (self .exit)) r ⌝ }
         ensures is { λ r. ⌜ Parsed expr depth (now (self .entry)) (now (table .entry)) (now (self .exit)) (now (table .exit)) r ⌝ }

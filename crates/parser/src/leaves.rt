@@ -25,7 +25,7 @@ use tosca::table::Entry;
 use tosca::table::Node;
 
 // The value of digits that keep the limit.
-pub fn number(digits: &[u8]) -> i32
+pub(crate) fn number(digits: &[u8]) -> i32
     requires { ⌜ limit (digitsOf (now digits)) ≡ 0 ⌝ }
     ensures { λ r. ⌜ r ≡ pos (valueOf (now (digits .entry))) ⌝ }
 {
@@ -34,7 +34,7 @@ pub fn number(digits: &[u8]) -> i32
 
 impl<'a> Parser<'a> {
     // Reads an opening bracket, which alone may stand here.
-    pub fn open(&mut self) -> Result<(), Refusal>
+    pub(crate) fn open(&mut self) -> Result<(), Refusal>
         requires { ⌜ Ready (now self) ⌝ }
         ensures { λ r. ⌜ Opened (now (self .entry)) (now (self .exit)) r ⌝ }
     {
@@ -45,7 +45,7 @@ impl<'a> Parser<'a> {
     }
 
     // Whether the next token is a minus.
-    pub fn is_minus(&self) -> bool
+    pub(crate) fn is_minus(&self) -> bool
         ensures { λ r. ⌜ r ≡ isMinus (next (now (self .entry))) ⌝ }
     {
         match self.token {
@@ -55,7 +55,7 @@ impl<'a> Parser<'a> {
     }
 
     // Whether the next token is `else`.
-    pub fn is_else(&self) -> bool
+    pub(crate) fn is_else(&self) -> bool
         ensures { λ r. ⌜ r ≡ isElse (next (now (self .entry))) ⌝ }
     {
         match self.token {
@@ -65,7 +65,7 @@ impl<'a> Parser<'a> {
     }
 
     // The empty command, which stands at the next token.
-    pub fn skip(&mut self, table: &mut [Entry]) -> u16
+    pub(crate) fn skip(&mut self, table: &mut [Entry]) -> u16
         requires { ⌜ now self .count < 65535 ⌝ ∗ ⌜ now self .place ≤ 16384 ⌝ }
         ensures { λ r. ⌜ Listed (now (self .entry)) (now (table .entry)) Node.Skip (now (self .entry) .place) r (now (self .exit)) (now (table .exit)) ⌝ }
     {
@@ -74,7 +74,7 @@ impl<'a> Parser<'a> {
     }
 
     // A constant, which is the next token.
-    pub fn constant(&mut self, table: &mut [Entry], value: Value) -> Result<u16, Refusal>
+    pub(crate) fn constant(&mut self, table: &mut [Entry], value: Value) -> Result<u16, Refusal>
         requires { ⌜ Ready (now self) ⌝ ∗ ⌜ next (now self) ≡ lit value ⌝ ∗ ⌜ plain (meant (now self .token)) ≡ true ⌝ }
         ensures less { λ r. ⌜ Less 0 (now (self .entry)) (now (self .exit)) r ⌝ }
         ensures is { λ r. ⌜ ((depth : ℕ) → depth ≤ 32 → Parsed factor depth (now (self .entry)) (now (table .entry)) (now (self .exit)) (now (table .exit)) r) ⌝ }
@@ -85,7 +85,7 @@ impl<'a> Parser<'a> {
     }
 
     // A variable, whose name is the next token.
-    pub fn variable(&mut self, table: &mut [Entry]) -> Result<u16, Refusal>
+    pub(crate) fn variable(&mut self, table: &mut [Entry]) -> Result<u16, Refusal>
         requires { ⌜ Ready (now self) ⌝ ∗ ⌜ isName (next (now self)) ≡ true ⌝ }
         ensures less { λ r. ⌜ Less 0 (now (self .entry)) (now (self .exit)) r ⌝ }
         ensures is { λ r. ⌜ ((depth : ℕ) → depth ≤ 32 → Parsed factor depth (now (self .entry)) (now (table .entry)) (now (self .exit)) (now (table .exit)) r) ⌝ }

@@ -63,7 +63,7 @@ impl<'a> Names<'a> {
         Some(n as u16)
     }
 
-    // The name that has this number, as it was written first.
+    // The name that has this number, in one of its spellings.
     pub fn spelling(&self, n: u16) -> Option<&'a [u8]>
         ensures { λ r. ⌜ spelled r ≡ nth (knownOf (now (self .entry)) .names) n ⌝ }
     {

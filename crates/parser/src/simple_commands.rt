@@ -18,7 +18,7 @@ use tosca::table::Node;
 
 impl<'a> Parser<'a> {
     // name := expr
-    pub fn assignment(&mut self, table: &mut [Entry], depth: usize) -> Result<u16, Refusal>
+    pub(crate) fn assignment(&mut self, table: &mut [Entry], depth: usize) -> Result<u16, Refusal>
         requires { ⌜ Ready (now self) ⌝ ∗ ⌜ depth ≤ 32 ⌝ ∗ ⌜ isName (next (now self)) ≡ true ⌝ }
         ensures less { λ r. ⌜ Less 0 (now (self .entry)) (now (self .exit)) r ⌝ }
         ensures is { λ r. ⌜ Parsed cmd depth (now (self .entry)) (now (table .entry)) (now (self .exit)) (now (table .exit)) r ⌝ }
@@ -31,7 +31,7 @@ impl<'a> Parser<'a> {
     }
 
     // read ( name )
-    pub fn input(&mut self, table: &mut [Entry]) -> Result<u16, Refusal>
+    pub(crate) fn input(&mut self, table: &mut [Entry]) -> Result<u16, Refusal>
         requires { ⌜ Ready (now self) ⌝ ∗ ⌜ meant (now self .token) ≡ other (start Read) ⌝ }
         ensures less { λ r. ⌜ Less 0 (now (self .entry)) (now (self .exit)) r ⌝ }
         ensures is { λ r. ⌜ ((depth : ℕ) → depth ≤ 32 → Parsed cmd depth (now (self .entry)) (now (table .entry)) (now (self .exit)) (now (table .exit)) r) ⌝ }
@@ -46,7 +46,7 @@ impl<'a> Parser<'a> {
     }
 
     // write ( expr )
-    pub fn output(&mut self, table: &mut [Entry], depth: usize) -> Result<u16, Refusal>
+    pub(crate) fn output(&mut self, table: &mut [Entry], depth: usize) -> Result<u16, Refusal>
         requires { ⌜ Ready (now self) ⌝ ∗ ⌜ depth ≤ 32 ⌝ ∗ ⌜ meant (now self .token) ≡ other (start Write) ⌝ }
         ensures less { λ r. ⌜ Less 0 (now (self .entry)) (now (self .exit)) r ⌝ }
         ensures is { λ r. ⌜ Parsed cmd depth (now (self .entry)) (now (table .entry)) (now (self .exit)) (now (table .exit)) r ⌝ }

@@ -44,10 +44,16 @@ use Rattle.reader.specs.Reading.{reading, holding, outcome, Answer, count, no,
 use Rattle.reader.specs.Reasons.{tokens, Begins, Before, With, Reason, textLength, noToken, nameLength, numberSize, grammar, depth, nameCount, nodeCount, Accepted}
 
 -- a completion in tokens is one in bytes
-begins : (bs : List ℕ) (c : ℕ) (front : List Item) (can : Completable front) → Completed bs c front (λ n. (can n .0, can n .1)) → Begins (take c bs)
+begins : (bs : List ℕ) (c : ℕ) (front : List Item) (can : Completable front) → Completed bs c front (λ n. (can n .0, can n .1)) → Begins (take c bs) front
 begins bs c front can x =
     let d = can (x .0) .2 (x .2) in
-    (x .1, (d .0, record { whole = x .4; derivation = subst (λ v. Text v (d .0)) (sym (x .3)) (d .1) }))
+    record {
+      more = x .1;
+      tree = d .0;
+      derived = record { whole = x .4; derivation = subst (λ v. Text v (d .0)) (sym (x .3)) (d .1) };
+      rest = placedFrom (x .2) 0 (can (x .0) .0 ++ (mark Stop ∷ []));
+      tokens = x .3;
+    }
 
 -- questions are known by their numbers
 abbrev questionOf : ℕ → Question

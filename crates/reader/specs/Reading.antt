@@ -58,9 +58,6 @@ pub record Derived (bs : List ℕ) (t : tree.Program ℕ) : Type 0 where
   pub whole : ends (scan 0 bs) ≡ over
   pub derivation : Text (items nothing (scan 0 bs)) t
 
-abbrev pub Grammatical : List ℕ → Type 0
-Grammatical bs = (t : tree.Program ℕ) × Derived bs t
-
 -- a derivation within the limits of length, names, numbers, depth and count of names
 pub record Limited (bs : List ℕ) (t : tree.Program ℕ) : Type 0 where
   pub short : length bs ≤ 16384

@@ -23,26 +23,30 @@ use Rattle.lexer.specs.declared.token.Refusal.{Refusal}
 use Rattle.lexer.specs.Scan.{scan, limited, Fails}
 use Rattle.lexer.specs.Names.{nothing, items}
 use Rattle.lexer.specs.NameLaws.{OneTooMany}
-use Rattle.reader.specs.Reading.{Derived, Grammatical, Limited, Held}
+use Rattle.reader.specs.Reading.{Derived, Limited, Held}
 
 -- the tokens of the text that are read
 abbrev pub tokens : List ℕ → List Item
 tokens bs = items nothing (limited (scan 0 bs))
 
--- some text of the grammar begins with these bytes
-abbrev pub Begins : List ℕ → Type 0
-Begins bs = (cs : List ℕ) × Grammatical (bs ++ cs)
+-- some text of the grammar begins with these bytes, and its tokens with front
+pub record Begins (bs : List ℕ) (front : List Item) : Type 0 where
+  pub more : List ℕ
+  pub tree : tree.Program ℕ
+  pub derived : Derived (bs ++ more) tree
+  pub rest : List Item
+  pub tokens : items nothing (scan 0 (bs ++ more)) ≡ front ++ rest
 
--- the tokens up to p are front; they begin some text, also as bytes, and in every text that begins so they keep the limits
+-- the tokens up to p are front; they begin some text, as bytes too, and in every text that begins so they keep the limits
 pub record Before (bs : List ℕ) (front : List Item) (p : ℕ) : Type 0 where
-  pub begins : Begins (take p bs)
+  pub begins : Begins (take p bs) front
   pub kept : Kept front
 
--- up to and with the token t at p, whose bytes end before a, some text begins so
+-- so do the tokens up to and with t at p, whose bytes end at some place after p
 pub record With (bs : List ℕ) (front : List Item) (t : Tok) (p : ℕ) : Type 0 where
   pub after : ℕ
   pub within : (p < after) × (after ≤ length bs)
-  pub begins : Begins (take after bs)
+  pub begins : Begins (take after bs) (front ++ (at t p ∷ []))
 
 -- why a text is refused, for a table with room for cap entries: the first question with a no, and its place
 pub data Reason (cap : ℕ) (bs : List ℕ) : Question → ℕ → Type 0 where

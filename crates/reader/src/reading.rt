@@ -1,4 +1,4 @@
-// Reading a text into a node table, and the names that its numbers stand for.
+// Reading a text into a node table.
 ghost use mathlib.Core.Path.{_≡_};
 ghost use lib.ListN.{length, replicate};
 ghost use Rattle.tosca.specs.Table.{blank};

@@ -64,13 +64,13 @@ binaryOf c =
     (cond (eqb c 11) (Some And)
     (cond (eqb c 12) (Some Or) None)))))))))
 
--- a constant's value: a truth value is 0 or 1
+-- a constant's value: a truth value is 0 or 1, and an integer is any that the field holds, which has 32 bits
 abbrev pub constant : SimpleType → ℤ → Option Value
 constant Integer z = Some (Number z)
 constant Boolean (pos n) = cond (eqb n 0) (Some (Truth false)) (cond (eqb n 1) (Some (Truth true)) None)
 constant Boolean (negsuc n) = None
 
--- an entry by its fields, those it lacks zero
+-- an entry by its nine fields
 abbrev pub fields : ℕ → ℕ → ℕ → ℕ → ℤ → ℕ → ℕ → ℕ → ℕ → Entry
 fields k o y x v a b c p = record { kind = k; op = o; typ = y; name = x; value = v; first = a; second = b; third = c; place = p }
 

@@ -10,6 +10,5 @@ pub mod Reasons
 pub mod Laws
 pub mod Bounded
 pub mod OpenTables
-pub mod OpenSteps
 pub mod OpenNumbered
 pub mod Opened

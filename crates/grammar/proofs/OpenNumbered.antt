@@ -20,7 +20,7 @@ use Rattle.grammar.specs.Building.{declares, buildE, buildC, builds}
 use Rattle.grammar.specs.Listing.{Listing, listing, adds, one, two, three, list, entriesOf}
 use Rattle.grammar.specs.Numbered.{lastE, lastC, numberE, numberC, numberDs, numbered}
 use Rattle.grammar.proofs.OpenTables.{node-entry}
-use Rattle.grammar.proofs.OpenSteps.{expr-step, cmd-step}
+use Rattle.tosca.proofs.Decoding.{expr-step, cmd-step}
 
 record Begins (es t : List Entry) : Type 0 where
   rest : List Entry

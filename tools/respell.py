@@ -87,7 +87,7 @@ def snake(word):
 
 def own_path(path):
     parts = path.split(".")
-    return len(parts) > 2 and parts[0] == "Rattle" and parts[1] in OWN and parts[2] in ("specs", "proofs") and "declared" not in parts and parts[-1] != "Goals"
+    return len(parts) > 2 and parts[0] == "Rattle" and parts[1] in OWN and parts[2] in ("specs", "proofs") and "declared" not in parts and parts[-1] not in ("Goals", "Given")
 
 
 def imports(text):
@@ -142,6 +142,8 @@ def respell_antt(path, FIELDS, report):
     def word(m):
         w = m.group(0)
         before = text[: m.start()]
+        if re.search(r"[{;]\s*$", before[-200:]) and re.match(r" = ", text[m.end() : m.end() + 3]) and other_spelling(w):
+            return snake(w)
         if before.endswith("."):
             head = re.search(r"([\w'.-]+)\.$", before[-200:])
             if head and (head.group(1) in aliases or own_path(head.group(1) + ".x") and text[m.end() : m.end() + 1] not in ".{") and other_spelling(w):

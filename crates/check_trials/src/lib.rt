@@ -1,4 +1,6 @@
 // Trials of opening and checking, on examples.
+#![tactic(auto)]
+
 pub mod examples;
 #[cfg(test)]
 mod tables;

@@ -1,4 +1,6 @@
 // Asking a draft the static rules, and the state of a routine that passes.
+#![tactic(auto)]
+
 pub mod checking;
 mod declarations;
 mod lowering;

@@ -1,4 +1,6 @@
 // The code table: its format, and mounted code, which a panel can rely on.
+#![tactic(auto)]
+
 pub mod laws;
 pub mod mounted;
 pub mod mounting;

@@ -1,6 +1,6 @@
 // Declarations. A name is listed when it is read, and gets its type when that is read.
 ghost use Rattle.std.specs.Prelude.{◌≡◌, ℕ, ◌+◌, ◌-◌, ◌*◌, ◌<◌, ◌≤◌, true, List, [], ◌∷◌};
-ghost use Rattle.grammar.specs.Automaton.{vars, decls, a_name, names, type, body};
+ghost use Rattle.grammar.specs.Automaton.{vars, decls, a_name, names, type as type_symbol, body};
 ghost use Rattle.parser.specs.Feeds.{ahead, next, unread, Ready};
 ghost use Rattle.declarations.specs.Declaring.{Used, Passes, Typed, Begun, Drafts, retyped};
 
@@ -65,7 +65,7 @@ fn declaration(parser: &mut Parser<'_>, table: &mut [Entry]) -> Result<(), Refus
 fn declared_names(parser: &mut Parser<'_>, table: &mut [Entry]) -> Result<(), Refusal>
     requires { Ready parser.old }
     ensures less { Used parser.old parser.new result }
-    ensures is { Drafts a_name type parser.old table.old parser.new table.new result }
+    ensures is { Drafts a_name type_symbol parser.old table.old parser.new table.new result }
 {
     declared_name(parser, table)?;
     while parser.is_at(Mark::Comma) {

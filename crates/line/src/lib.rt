@@ -1,4 +1,6 @@
 // Lines: readings on their way to a routine, and sends on their way from it.
+#![tactic(auto)]
+
 pub mod answers;
 mod bank;
 mod cells;

@@ -1,4 +1,6 @@
 // The reader: from a text to its node table, and the names of a text.
+#![tactic(auto)]
+
 pub mod laws;
 pub mod naming;
 pub mod program;

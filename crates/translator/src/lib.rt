@@ -1,4 +1,6 @@
 // Translating a checked routine to code.
+#![tactic(auto)]
+
 mod commands;
 mod emitter;
 mod expressions;

@@ -1,4 +1,6 @@
 // Trials of the reader: its limits, its refusals and its tables, on examples.
+#![tactic(auto)]
+
 pub mod examples;
 #[cfg(test)]
 mod limits;

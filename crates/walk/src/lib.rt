@@ -1,4 +1,6 @@
 // One walk over the expression nodes of a draft serves every reading of an expression.
+#![tactic(auto)]
+
 pub mod declarations;
 pub mod reading;
 pub mod temporaries;

@@ -1,4 +1,6 @@
 // The command-line program.
+#![tactic(auto)]
+
 mod batch;
 mod command;
 mod failure;
@@ -10,16 +12,17 @@ mod routine;
 use command::{Command, USAGE};
 use failure::Failure;
 use std::env;
+use std::process::ExitCode;
 
-fn main(rt: HostRuntime) -> Result<(), Failure> {
-    let result = run(&rt);
-    match &result {
-        Ok(()) | Err(Failure::Refused) => {}
+fn main(rt: HostRuntime) -> ExitCode {
+    match run(&rt) {
+        Ok(()) => ExitCode::SUCCESS,
+        Err(Failure::Refused) => ExitCode::FAILURE,
         Err(failure) => {
             let _ = rt.eprintln(format_args!("wisnoeur: {failure}"));
+            ExitCode::FAILURE
         }
     }
-    result
 }
 
 fn run(rt: &HostRuntime) -> Result<(), Failure> {

@@ -24,10 +24,10 @@ loop-i-preserved g c =
     let l = c.loop-i.line in
     let number : ℤ = get_or c.args.numbers.now c.loop-i.i (pos 0) in
     let fits : SFits w32 number = search rules in (
-      c.feed-one.ensures.readings
+      c.feed_one.ensures.readings
           ∙ ap (λ x. enqueued line.max_readings x (line.readings l)) (to_z-of_z w32 number fits)
-          ∙ fed_more line.max_readings (line.readings c.args.line.now) c.args.numbers.now (line.readings l) c.loop-i.i c.loop-i.invariant.0 c.if-not-feed-one.ensures.answer c.loop-i-test.true,
-      c.feed-one.ensures.sends ∙ c.loop-i.invariant.1,
+          ∙ fed_more line.max_readings (line.readings c.args.line.now) c.args.numbers.now (line.readings l) c.loop-i.i c.loop-i.invariant.0 c.if-not-feed_one.ensures.answer c.loop-i-test.true,
+      c.feed_one.ensures.sends ∙ c.loop-i.invariant.1,
     )
 
 pub returns : goal.returns

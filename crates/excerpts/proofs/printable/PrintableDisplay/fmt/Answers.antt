@@ -12,12 +12,12 @@ pub loop-b-preserved : goal.loop-b-preserved
 loop-b-preserved g c = λ p.
     let took = g.W.Write.write_str_gives in
     let f = c.args.f.now in
-    let h = c.write-char.new.self in
+    let h = c.write_char.new.self in
     let style = c.args.self.now.style in
     let xs = c.args.self.now.bytes.now in
     let before = c.loop-b.invariant p in
     has_written_of_eq took f _ _ h (one_more style xs c.loop-b.b-index c.character.result c.loop-b-test.true c.character.ensures)
-    (has_written_append took f _ c.loop-b.f _ h before (c.in-ok-write-char.ensures.writes before.plain refl))
+    (has_written_append took f _ c.loop-b.f _ h before (c.in_ok-write_char.ensures.writes before.plain refl))
 
 pub returns-clause-writes : goal.returns-clause-writes
 returns-clause-writes g c = λ p e.

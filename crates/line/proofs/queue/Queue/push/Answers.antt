@@ -19,7 +19,7 @@ returns g c =
     let q = c.args.self.now in
     let p = c.append.new.self in
     let cell = g.C.Cells.cell in
-    let free : true ≡ ltb q.len g.row.SIZE = c.if-not-has-room.ensures in
+    let free : true ≡ ltb q.len g.row.SIZE = c.if-not-has_room.ensures in
     let fits = c.ranges.number in
     let here : cell p.cells (place g.row.SIZE q.head q.len) ≡ c.args.number = simp to_z-of_z at c.append.ensures.here in
     record {

@@ -10,5 +10,5 @@ pub returns : goal.returns
 unfolding checking
 returns c =
     let p = tree_of c.args.draft.now in
-    let is : c.ask-all.result ≡ checking p = c.ask-all.ensures in
+    let is : c.ask_all.result ≡ checking p = c.ask_all.ensures in
     record { is = is; judged = subst (λ (r : Result (Unit {0}) Violation). Judged p r) (sym is) (static_laws p) }

@@ -4,7 +4,7 @@ use Rattle.draft.proofs.Facts.{decl_fact}
 use Rattle.checks.specs.declared.names.Names.{Names}
 use Rattle.checks.proofs.Repeats.{Left, left_all, left_none, left_here, left_later, left_other}
 use Rattle.checks.proofs.declarations.repeated_name.Goals as goal
-use Rattle.checks.proofs.declarations.repeated_name.Goals.{in-Decl+else-has, in-default}
+use Rattle.checks.proofs.declarations.repeated_name.Goals.{in-Decl+else-has, in_default}
 
 pub loop-n-init : goal.loop-n-init
 loop-n-init c = left_all (entries_of c.args.draft.now) _ c.none-seen.ensures
@@ -26,9 +26,9 @@ loop-n-preserved c =
     let t = entries_of c.args.draft.now in
     let n = c.loop-n.n in
     let below : n < length t = omega (arith, c.loop-n-test.true, c.count-n-end.ensures) in
-    elim c.match-node-at.branch [
+    elim c.match-node_at.branch [
       | in-Decl+else-has w ↦ c.loop-n.invariant ∙ left_later t c.loop-n.seen.bits n below w.in-Decl.ensures w.if-has.ensures (ap (λ (s : Names). s.bits) w.seen-is ∙ w.with-seen.ensures)
-      | in-default w ↦ c.loop-n.invariant ∙ left_other t c.loop-n.seen.bits n below c.node-at.result c.node-at.ensures w.in-default.not-Decl ∙ ap (λ (s : Names). Left t s.bits (n + 1)) (sym w.seen-is)
+      | in_default w ↦ c.loop-n.invariant ∙ left_other t c.loop-n.seen.bits n below c.node_at.result c.node_at.ensures w.in_default.not-Decl ∙ ap (λ (s : Names). Left t s.bits (n + 1)) (sym w.seen-is)
     ]
 
 pub returns : goal.returns

@@ -4,4 +4,4 @@ use Rattle.checks.proofs.Asked.{declared_asked}
 use Rattle.checks.proofs.declarations.undeclared_name.Goals as goal
 
 pub returns : goal.returns
-returns c = declared_asked (entries_of c.args.draft.now) c.args.draft.now.formed (types_of c.of.result) c.of.ensures c.first-fault.ensures
+returns c = declared_asked (entries_of c.args.draft.now) c.args.draft.now.formed (types_of c.of.result) c.of.ensures c.first_fault.ensures

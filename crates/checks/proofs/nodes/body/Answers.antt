@@ -5,11 +5,11 @@ use Rattle.checks.proofs.nodes.body.Goals as goal
 pub overflow-sub-count : goal.overflow-sub-count
 overflow-sub-count c = some_count (entries_of c.args.draft.now) c.args.draft.now.formed c.count.result c.count.ensures
 
-pub node-at-requires : goal.node-at-requires
-node-at-requires c = last_below (entries_of c.args.draft.now) c.args.draft.now.formed c.count.result c.count.ensures
+pub node_at-requires : goal.node_at-requires
+node_at-requires c = last_below (entries_of c.args.draft.now) c.args.draft.now.formed c.count.result c.count.ensures
 
 pub unreachable-requires : goal.unreachable-requires
-unreachable-requires c = last_program (entries_of c.args.draft.now) c.args.draft.now.formed c.count.result c.count.ensures c.node-at.result c.node-at.ensures c.in-default.not-Program
+unreachable-requires c = last_program (entries_of c.args.draft.now) c.args.draft.now.formed c.count.result c.count.ensures c.node_at.result c.node_at.ensures c.in_default.not-Program
 
 pub returns : goal.returns
 returns c =

@@ -21,8 +21,8 @@ follow-second-requires t c =
     let f = seq_fact (entries_of c.args.draft.now) c.args.draft.now.formed c.args.n c.requires.below c.in-Seq.ensures in
     (omega (arith, c.decreases, f.2), ready_part c.requires _ is_cmd f.2 f.3)
 
-pub unset-in-test-requires : goal.unset-in-test-requires
-unset-in-test-requires t c =
+pub unset_in-test-requires : goal.unset_in-test-requires
+unset_in-test-requires t c =
     let f = choice_fact (entries_of c.args.draft.now) c.args.draft.now.formed c.args.n c.requires.below c.in-Choice.ensures in
     ready_part c.requires _ is_expr f.0 f.1
 
@@ -36,8 +36,8 @@ follow-no-requires t c =
     let f = choice_fact (entries_of c.args.draft.now) c.args.draft.now.formed c.args.n c.requires.below c.in-Choice.ensures in
     (omega (arith, c.decreases, f.4), ready_part c.requires _ is_cmd f.4 f.5)
 
-pub unset-in-test-requires-in-Loop : goal.unset-in-test-requires-in-Loop
-unset-in-test-requires-in-Loop t c =
+pub unset_in-test-requires-in-Loop : goal.unset_in-test-requires-in-Loop
+unset_in-test-requires-in-Loop t c =
     let f = loop_fact (entries_of c.args.draft.now) c.args.draft.now.formed c.args.n c.requires.below c.in-Loop.ensures in
     ready_part c.requires _ is_expr f.0 f.1
 
@@ -49,8 +49,8 @@ follow-turn-requires t c =
 pub with-requires : goal.with-requires
 with-requires t c = input_fact (entries_of c.args.draft.now) c.args.draft.now.formed c.args.n c.requires.below c.in-Input.ensures
 
-pub unset-in-requires : goal.unset-in-requires
-unset-in-requires t c =
+pub unset_in-requires : goal.unset_in-requires
+unset_in-requires t c =
     let f = output_fact (entries_of c.args.draft.now) c.args.draft.now.formed c.args.n c.requires.below c.in-Output.ensures in
     ready_part c.requires _ is_expr f.0 f.1
 
@@ -63,20 +63,20 @@ pub returns-in-Seq : goal.returns-in-Seq
 returns-in-Seq t c =
     let first = c.follow-first.ensures in
     let second = c.follow-second.ensures in
-    let r = seq_comes (entries_of c.args.draft.now) c.args.draft.now.formed c.args.n c.requires.below c.args.before.bits c.in-Seq.ensures (record { set = first.set; fault = first.fault }) (record { set = second.set; fault = second.fault }) c.in-turn.ensures.set c.in-turn.ensures.fault in
+    let r = seq_comes (entries_of c.args.draft.now) c.args.draft.now.formed c.args.n c.requires.below c.args.before.bits c.in-Seq.ensures (record { set = first.set; fault = first.fault }) (record { set = second.set; fault = second.fault }) c.in_turn.ensures.set c.in_turn.ensures.fault in
     record { set = r.set; fault = r.fault }
 
 pub returns-in-Choice : goal.returns-in-Choice
 returns-in-Choice t c =
     let yes = c.follow-yes.ensures in
     let no = c.follow-no.ensures in
-    let r = choice_comes (entries_of c.args.draft.now) c.args.draft.now.formed c.args.n c.requires.below c.args.before.bits c.in-Choice.ensures c.unset-in-test.ensures (record { set = yes.set; fault = yes.fault }) (record { set = no.set; fault = no.fault }) c.either.ensures.set c.either.ensures.fault in
+    let r = choice_comes (entries_of c.args.draft.now) c.args.draft.now.formed c.args.n c.requires.below c.args.before.bits c.in-Choice.ensures c.unset_in-test.ensures (record { set = yes.set; fault = yes.fault }) (record { set = no.set; fault = no.fault }) c.either.ensures.set c.either.ensures.fault in
     record { set = r.set; fault = r.fault }
 
 pub returns-in-Loop : goal.returns-in-Loop
 returns-in-Loop t c =
     let turn = c.follow-turn.ensures in
-    let r = loop_comes (entries_of c.args.draft.now) c.args.draft.now.formed c.args.n c.requires.below c.args.before.bits c.in-Loop.ensures c.unset-in-test-in-Loop.ensures (record { set = turn.set; fault = turn.fault }) c.repeated.ensures.set c.repeated.ensures.fault in
+    let r = loop_comes (entries_of c.args.draft.now) c.args.draft.now.formed c.args.n c.requires.below c.args.before.bits c.in-Loop.ensures c.unset_in-test-in-Loop.ensures (record { set = turn.set; fault = turn.fault }) c.repeated.ensures.set c.repeated.ensures.fault in
     record { set = r.set; fault = r.fault }
 
 pub returns-in-Input : goal.returns-in-Input
@@ -86,11 +86,11 @@ returns-in-Input t c =
 
 pub returns-in-Output : goal.returns-in-Output
 returns-in-Output t c =
-    let r = output_comes (entries_of c.args.draft.now) c.args.draft.now.formed c.args.n c.requires.below c.args.before.bits c.in-Output.ensures c.unset-in.ensures in
+    let r = output_comes (entries_of c.args.draft.now) c.args.draft.now.formed c.args.n c.requires.below c.args.before.bits c.in-Output.ensures c.unset_in.ensures in
     record { set = r.set; fault = r.fault }
 
-pub returns-in-default : goal.returns-in-default
-returns-in-default t c =
-    let o = c.in-default in
-    let r = other_comes (entries_of c.args.draft.now) c.args.draft.now.formed c.args.n c.requires.below c.args.before.bits c.node-at.result c.node-at.ensures o.not-Assign o.not-Seq o.not-Choice o.not-Loop o.not-Input o.not-Output in
+pub returns-in_default : goal.returns-in_default
+returns-in_default t c =
+    let o = c.in_default in
+    let r = other_comes (entries_of c.args.draft.now) c.args.draft.now.formed c.args.n c.requires.below c.args.before.bits c.node_at.result c.node_at.ensures o.not-Assign o.not-Seq o.not-Choice o.not-Loop o.not-Input o.not-Output in
     record { set = r.set; fault = r.fault }

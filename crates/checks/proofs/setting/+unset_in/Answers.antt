@@ -15,18 +15,18 @@ returns-then-covers t c =
 pub has-requires : goal.has-requires
 has-requires t c = var_fact (entries_of c.args.draft.now) c.args.draft.now.formed c.args.n c.requires.below c.in-Var.ensures
 
-pub unset-in-requires : goal.unset-in-requires
-unset-in-requires t c =
+pub unset_in-requires : goal.unset_in-requires
+unset_in-requires t c =
     let f = uny_fact (entries_of c.args.draft.now) c.args.draft.now.formed c.args.n c.requires.below c.in-Uny.ensures in
     (omega (arith, c.decreases, f.0), ready_part c.requires _ is_expr f.0 f.1)
 
-pub unset-in-requires-in-Bin : goal.unset-in-requires-in-Bin
-unset-in-requires-in-Bin t c =
+pub unset_in-requires-in-Bin : goal.unset_in-requires-in-Bin
+unset_in-requires-in-Bin t c =
     let f = bin_fact (entries_of c.args.draft.now) c.args.draft.now.formed c.args.n c.requires.below c.in-Bin.ensures in
     (omega (arith, c.decreases, f.0), ready_part c.requires _ is_expr f.0 f.1)
 
-pub unset-in-requires-in-Bin-2 : goal.unset-in-requires-in-Bin-2
-unset-in-requires-in-Bin-2 t c =
+pub unset_in-requires-in-Bin-2 : goal.unset_in-requires-in-Bin-2
+unset_in-requires-in-Bin-2 t c =
     let f = bin_fact (entries_of c.args.draft.now) c.args.draft.now.formed c.args.n c.requires.below c.in-Bin.ensures in
     (omega (arith, c.decreases, f.2), ready_part c.requires _ is_expr f.2 f.3)
 
@@ -37,10 +37,10 @@ pub returns-else-has : goal.returns-else-has
 returns-else-has t c = var_unset (entries_of c.args.draft.now) c.args.draft.now.formed c.args.n c.requires.below (holds c.args.set.bits) c.in-Var.ensures c.if-has.ensures
 
 pub returns-in-Uny : goal.returns-in-Uny
-returns-in-Uny t c = uny_unset (entries_of c.args.draft.now) c.args.draft.now.formed c.args.n c.requires.below (holds c.args.set.bits) c.in-Uny.ensures c.unset-in.ensures
+returns-in-Uny t c = uny_unset (entries_of c.args.draft.now) c.args.draft.now.formed c.args.n c.requires.below (holds c.args.set.bits) c.in-Uny.ensures c.unset_in.ensures
 
 pub returns-in-Bin : goal.returns-in-Bin
-returns-in-Bin t c = bin_unset (entries_of c.args.draft.now) c.args.draft.now.formed c.args.n c.requires.below (holds c.args.set.bits) c.in-Bin.ensures c.unset-in-in-Bin.ensures c.unset-in-in-Bin-2.ensures c.lower.ensures
+returns-in-Bin t c = bin_unset (entries_of c.args.draft.now) c.args.draft.now.formed c.args.n c.requires.below (holds c.args.set.bits) c.in-Bin.ensures c.unset_in-in-Bin.ensures c.unset_in-in-Bin-2.ensures c.lower.ensures
 
-pub returns-in-default : goal.returns-in-default
-returns-in-default t c = other_unset (entries_of c.args.draft.now) c.args.draft.now.formed c.args.n c.requires.below (holds c.args.set.bits) c.node-at.result c.node-at.ensures c.in-default.not-Var c.in-default.not-Uny c.in-default.not-Bin
+pub returns-in_default : goal.returns-in_default
+returns-in_default t c = other_unset (entries_of c.args.draft.now) c.args.draft.now.formed c.args.n c.requires.below (holds c.args.set.bits) c.node_at.result c.node_at.ensures c.in_default.not-Var c.in_default.not-Uny c.in_default.not-Bin

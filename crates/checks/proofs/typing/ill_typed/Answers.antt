@@ -7,4 +7,4 @@ use Rattle.checks.proofs.Within.{room}
 use Rattle.checks.proofs.typing.ill_typed.Goals as goal
 
 pub returns : goal.returns
-returns c = typed_asked (entries_of c.args.draft.now) c.args.draft.now.formed (types_of c.of-typing.result) c.of-typing.ensures c.verdicts.new.answers (replicate 1024 Wrong) c.verdicts.ensures (room c.args.draft.now Wrong) c.first-fault.ensures
+returns c = typed_asked (entries_of c.args.draft.now) c.args.draft.now.formed (types_of c.of-typing.result) c.of-typing.ensures c.verdicts.new.answers (replicate 1024 Wrong) c.verdicts.ensures (room c.args.draft.now Wrong) c.first_fault.ensures

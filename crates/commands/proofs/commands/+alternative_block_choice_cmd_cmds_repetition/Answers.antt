@@ -13,20 +13,20 @@ use Rattle.commands.proofs.CommandRing.{blocks, less_after, less_slack, less_loo
 use Rattle.commands.proofs.commands.+alternative_block_choice_cmd_cmds_repetition.Goals as goal
 
 pub alternative-advance-requires : goal.alternative-advance-requires
-alternative-advance-requires t c = (c.requires.0, token.plain_else (known_of c.args.parser.now.names) c.args.parser.now.token (sym c.if-not-is-else.ensures))
+alternative-advance-requires t c = (c.requires.0, token.plain_else (known_of c.args.parser.now.names) c.args.parser.now.token (sym c.if-not-is_else.ensures))
 
 pub alternative-returns : goal.alternative-returns
 alternative-returns t c =
-    let a = subst (λ v. Read c.args.parser.now v c.advance.new.self) (token.is_else (next c.args.parser.now) (sym c.if-not-is-else.ensures)) c.in-ok-advance.ensures in
+    let a = subst (λ v. Read c.args.parser.now v c.advance.new.self) (token.is_else (next c.args.parser.now) (sym c.if-not-is_else.ensures)) c.in-ok-advance.ensures in
     record {
       less = less_after 1 1 c.args.parser.now c.advance.new.self c.cmd.new.parser else' c.cmd.result (omega arith) a c.cmd.ensures.less;
       is = with_else c.args.depth c.args.parser.now c.advance.new.self c.cmd.new.parser c.args.table.now c.cmd.new.table c.cmd.result c.requires.1.0 a c.cmd.ensures.is;
     }
 
-pub alternative-returns-then-not-is-else : goal.alternative-returns-then-not-is-else
-alternative-returns-then-not-is-else t c = record {
+pub alternative-returns-then-not-is_else : goal.alternative-returns-then-not-is_else
+alternative-returns-then-not-is_else t c = record {
   less = less_skipped c.args.parser.now c.skip.new.parser c.args.table.now c.skip.new.table Skip c.args.parser.now.place c.skip.result c.requires.0 c.requires.1.1 c.skip.ensures;
-  is = no_else c.args.depth c.args.parser.now c.skip.new.parser c.args.table.now c.skip.new.table c.skip.result (sym c.if-not-is-else.ensures) c.skip.ensures;
+  is = no_else c.args.depth c.args.parser.now c.skip.new.parser c.args.table.now c.skip.new.table c.skip.result (sym c.if-not-is_else.ensures) c.skip.ensures;
 }
 
 pub block-returns : goal.block-returns
@@ -90,10 +90,10 @@ cmd-returns-in-Read t c = record {
   is = c.input.ensures.is c.args.depth c.requires.1.0;
 }
 
-pub cmd-returns-in-default : goal.cmd-returns-in-default
-cmd-returns-in-default t c = record {
+pub cmd-returns-in_default : goal.cmd-returns-in_default
+cmd-returns-in_default t c = record {
   less = less_skipped c.args.parser.now c.skip.new.parser c.args.table.now c.skip.new.table Skip c.args.parser.now.place c.skip.result c.requires.0 c.requires.1.1 c.skip.ensures;
-  is = skipped c.args.depth c.args.parser.now c.skip.new.parser c.args.table.now c.skip.new.table c.skip.result (token.no_command (known_of c.args.parser.now.names) c.args.parser.now.token c.in-default.not-Name c.in-default.not-Start) c.skip.ensures;
+  is = skipped c.args.depth c.args.parser.now c.skip.new.parser c.args.table.now c.skip.new.table c.skip.result (token.no_command (known_of c.args.parser.now.names) c.args.parser.now.token c.in_default.not-Name c.in_default.not-Start) c.skip.ensures;
 }
 
 pub cmds-returns-in-err-advance : goal.cmds-returns-in-err-advance
@@ -109,7 +109,7 @@ cmds-returns-in-err-next t c =
 pub cmds-loop-place-preserved : goal.cmds-loop-place-preserved
 cmds-loop-place-preserved t c =
     let v = c.in-ok-next.ensures in
-    one_more c.args.depth c.in-ok-all.all c.loop-place.all c.in-ok-next.next c.emit-all.result c.cmd.new.parser c.loop-place.parser c.advance.new.self c.cmd-in-loop-place.new.parser c.emit-all.new.self c.cmd.new.table c.loop-place.table c.cmd-in-loop-place.new.table c.emit-all.new.table c.requires.1.0 c.loop-place.invariant (sym c.loop-place-test.ensures) c.in-ok-advance.ensures v.less v.is c.emit-all.ensures
+    one_more c.args.depth c.in-ok-all.all c.loop-place.all c.in-ok-next.next c.emit_all.result c.cmd.new.parser c.loop-place.parser c.advance.new.self c.cmd-in-loop-place.new.parser c.emit_all.new.self c.cmd.new.table c.loop-place.table c.cmd-in-loop-place.new.table c.emit_all.new.table c.requires.1.0 c.loop-place.invariant (sym c.loop-place-test.ensures) c.in-ok-advance.ensures v.less v.is c.emit_all.ensures
 
 pub cmds-returns-in-err-expect : goal.cmds-returns-in-err-expect
 cmds-returns-in-err-expect t c =

@@ -6,6 +6,6 @@ use Rattle.draft.proofs.arrangement.count_parts.Goals as goal
 
 pub returns : goal.returns
 returns c f h =
-    recount c.count-part-3.new.uses _ _
+    recount c.count_part-3.new.uses _ _
     (λ k. omega (arith, uses_three k (parts (node c.args.entry.now)) c.of-parts.result c.of-parts.ensures))
-    (c.count-part-3.ensures _ (c.count-part-2.ensures _ (c.count-part.ensures f h)))
+    (c.count_part-3.ensures _ (c.count_part-2.ensures _ (c.count_part.ensures f h)))

@@ -9,7 +9,7 @@ loop-entry-init c = (refl, none_counted)
 
 pub loop-entry-preserved : goal.loop-entry-preserved
 loop-entry-preserved c =
-    (omega (arith, c.count-parts.auto.uses), recount c.count-parts.new.uses _ _ (uses_more c.args.entries.now c.loop-entry.entry-index c.loop-entry-test.true) (c.count-parts.ensures _ c.loop-entry.invariant.1))
+    (omega (arith, c.count_parts.auto.uses), recount c.count_parts.new.uses _ _ (uses_more c.args.entries.now c.loop-entry.entry-index c.loop-entry-test.true) (c.count_parts.ensures _ c.loop-entry.invariant.1))
 
 pub returns : goal.returns
 returns c =

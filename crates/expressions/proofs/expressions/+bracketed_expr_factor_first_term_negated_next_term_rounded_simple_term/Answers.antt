@@ -46,18 +46,18 @@ term-returns t c =
     let b = c.in-ok-left.ensures.less in
     record {
       less = (k.ready, omega (arith, b.1, k.fewer), omega (arith, b.2, k.room));
-      is = loop_ends products c.args.depth c.requires.1 c.in-ok-left.left c.loop-op.left c.args.parser.now c.factor.new.parser c.loop-op.parser c.args.table.now c.factor.new.table c.loop-op.table (term_opens c.args.depth c.in-ok-left.left c.args.parser.now c.factor.new.parser c.args.table.now c.factor.new.table c.in-ok-left.ensures.is) c.loop-op.invariant (sym c.in-default.ensures);
+      is = loop_ends products c.args.depth c.requires.1 c.in-ok-left.left c.loop-op.left c.args.parser.now c.factor.new.parser c.loop-op.parser c.args.table.now c.factor.new.table c.loop-op.table (term_opens c.args.depth c.in-ok-left.left c.args.parser.now c.factor.new.parser c.args.table.now c.factor.new.table c.in-ok-left.ensures.is) c.loop-op.invariant (sym c.in_default.ensures);
     }
 
 pub simple-returns-in-err-advance : goal.simple-returns-in-err-advance
 simple-returns-in-err-advance t c =
     let x = err_from_is_err_and c.from-residual-in-err-advance.result c.from-residual-in-err-advance.ensures.1 in
-    rw (x.1, x.2) (record { less = tt; is = loop_broken sums c.args.depth c.requires.1 c.in-ok-left.left c.loop-op.left c.args.parser.now c.first-term.new.parser c.loop-op.parser c.args.table.now c.first-term.new.table c.loop-op.table c.in-ok-left.ensures.is c.loop-op.invariant c.in-Some.op c.advance.new.self c.loop-op.table c.in-err-advance.field-0.0 (sym c.in-Some.ensures) c.in-err-advance.ensures })
+    rw (x.1, x.2) (record { less = tt; is = loop_broken sums c.args.depth c.requires.1 c.in-ok-left.left c.loop-op.left c.args.parser.now c.first_term.new.parser c.loop-op.parser c.args.table.now c.first_term.new.table c.loop-op.table c.in-ok-left.ensures.is c.loop-op.invariant c.in-Some.op c.advance.new.self c.loop-op.table c.in-err-advance.field-0.0 (sym c.in-Some.ensures) c.in-err-advance.ensures })
 
 pub simple-returns-in-err-right : goal.simple-returns-in-err-right
 simple-returns-in-err-right t c =
     let x = err_from_is_err_and c.from-residual-in-err-right.result c.from-residual-in-err-right.ensures.1 in
-    rw (x.1, x.2) (record { less = tt; is = loop_refused sums c.args.depth c.requires.1 c.in-ok-left.left c.loop-op.left c.args.parser.now c.first-term.new.parser c.loop-op.parser c.args.table.now c.first-term.new.table c.loop-op.table c.in-ok-left.ensures.is c.loop-op.invariant c.in-Some.op c.advance.new.self c.next-term.new.parser c.next-term.new.table c.in-err-right.field-0.0 (sym c.in-Some.ensures) c.in-ok-advance.ensures c.in-err-right.ensures.is })
+    rw (x.1, x.2) (record { less = tt; is = loop_refused sums c.args.depth c.requires.1 c.in-ok-left.left c.loop-op.left c.args.parser.now c.first_term.new.parser c.loop-op.parser c.args.table.now c.first_term.new.table c.loop-op.table c.in-ok-left.ensures.is c.loop-op.invariant c.in-Some.op c.advance.new.self c.next_term.new.parser c.next_term.new.table c.in-err-right.field-0.0 (sym c.in-Some.ensures) c.in-ok-advance.ensures c.in-err-right.ensures.is })
 
 pub simple-loop-op-preserved : goal.simple-loop-op-preserved
 simple-loop-op-preserved t c =
@@ -70,7 +70,7 @@ simple-loop-op-preserved t c =
       ready = l.ready b.less.0 (omega (arith, b.less.1, b.less.2, same, l.count, k.room, a.one));
       fewer = omega (arith, b.less.1, same, k.fewer, a.one);
       room = omega (arith, b.less.2, same, l.count, k.room, a.one, a.count);
-      is = loop_again sums c.args.depth c.requires.1 c.in-ok-left.left c.loop-op.left c.in-ok-right.right c.emit-left.result c.first-term.new.parser c.loop-op.parser c.advance.new.self c.next-term.new.parser c.emit-left.new.self c.first-term.new.table c.loop-op.table c.next-term.new.table c.emit-left.new.table c.in-Some.op k (sym c.in-Some.ensures) a b.is (subst (λ o. Listed c.next-term.new.parser c.next-term.new.table (Bin c.loop-op.left o c.in-ok-right.right) c.loop-op.parser.place c.emit-left.result c.emit-left.new.self c.emit-left.new.table) c.operator.ensures l);
+      is = loop_again sums c.args.depth c.requires.1 c.in-ok-left.left c.loop-op.left c.in-ok-right.right c.emit-left.result c.first_term.new.parser c.loop-op.parser c.advance.new.self c.next_term.new.parser c.emit-left.new.self c.first_term.new.table c.loop-op.table c.next_term.new.table c.emit-left.new.table c.in-Some.op k (sym c.in-Some.ensures) a b.is (subst (λ o. Listed c.next_term.new.parser c.next_term.new.table (Bin c.loop-op.left o c.in-ok-right.right) c.loop-op.parser.place c.emit-left.result c.emit-left.new.self c.emit-left.new.table) c.operator.ensures l);
     }
 
 pub simple-returns : goal.simple-returns
@@ -79,7 +79,7 @@ simple-returns t c =
     let b = c.in-ok-left.ensures.less in
     record {
       less = (k.ready, omega (arith, b.1, k.fewer), omega (arith, b.2, k.room));
-      is = loop_ends sums c.args.depth c.requires.1 c.in-ok-left.left c.loop-op.left c.args.parser.now c.first-term.new.parser c.loop-op.parser c.args.table.now c.first-term.new.table c.loop-op.table c.in-ok-left.ensures.is c.loop-op.invariant (sym c.in-default.ensures);
+      is = loop_ends sums c.args.depth c.requires.1 c.in-ok-left.left c.loop-op.left c.args.parser.now c.first_term.new.parser c.loop-op.parser c.args.table.now c.first_term.new.table c.loop-op.table c.in-ok-left.ensures.is c.loop-op.invariant (sym c.in_default.ensures);
     }
 
 pub expr-returns-in-err-left : goal.expr-returns-in-err-left
@@ -116,27 +116,27 @@ expr-returns-in-ok-right t c =
       is = λ L mk. chain (expr_opens c.args.depth c.in-ok-left.left c.args.parser.now c.simple.new.parser c.args.table.now c.simple.new.table c.in-ok-left.ensures.is L mk) (operated relations c.args.depth c.requires.1 c.in-ok-left.left c.simple.new.parser c.simple.new.table c.in-Some.op (sym c.in-Some.ensures) L mk a b.is (subst (λ o. Listed c.simple-in-Some.new.parser c.simple-in-Some.new.table (Bin c.in-ok-left.left o c.in-ok-right.right) c.simple.new.parser.place c.emit.result c.emit.new.self c.emit.new.table) c.operator.ensures l));
     }
 
-pub first-term-returns-in-err-part : goal.first-term-returns-in-err-part
-first-term-returns-in-err-part t c =
+pub first_term-returns-in-err-part : goal.first_term-returns-in-err-part
+first_term-returns-in-err-part t c =
     let x = err_from_is_err_and c.from-residual-in-err-part.result c.from-residual-in-err-part.ensures.1 in
-    rw (x.1, x.2) (record { less = tt; is = minus_refused c.args.depth c.requires.1 c.args.parser.now c.advance.new.self c.next-term.new.parser c.args.table.now c.next-term.new.table c.in-err-part.field-0.0 (sym c.if-not-is-minus.ensures) c.in-ok-advance.ensures c.in-err-part.ensures.is })
+    rw (x.1, x.2) (record { less = tt; is = minus_refused c.args.depth c.requires.1 c.args.parser.now c.advance.new.self c.next_term.new.parser c.args.table.now c.next_term.new.table c.in-err-part.field-0.0 (sym c.if-not-is_minus.ensures) c.in-ok-advance.ensures c.in-err-part.ensures.is })
 
-pub first-term-returns : goal.first-term-returns
-first-term-returns t c =
+pub first_term-returns : goal.first_term-returns
+first_term-returns t c =
     let a = c.in-ok-advance.ensures in
     let b = c.in-ok-part.ensures in
     let l = c.emit.ensures in
     let same = ap (λ f. length f.tokens) l.same in
     record {
       less = (l.ready b.less.0 (omega (arith, c.requires.0.room, b.less.1, b.less.2, same, l.count, a.one, a.count)), omega (arith, b.less.1, same, a.one), omega (arith, b.less.2, same, l.count, a.one, a.count));
-      is = minus_ok c.args.depth c.in-ok-part.part c.emit.result c.requires.1 c.args.parser.now c.advance.new.self c.next-term.new.parser c.emit.new.self c.args.table.now c.next-term.new.table c.emit.new.table (sym c.if-not-is-minus.ensures) a b.is l;
+      is = minus_ok c.args.depth c.in-ok-part.part c.emit.result c.requires.1 c.args.parser.now c.advance.new.self c.next_term.new.parser c.emit.new.self c.args.table.now c.next_term.new.table c.emit.new.table (sym c.if-not-is_minus.ensures) a b.is l;
     }
 
-pub first-term-returns-then-not-is-minus : goal.first-term-returns-then-not-is-minus
-first-term-returns-then-not-is-minus t c =
+pub first_term-returns-then-not-is_minus : goal.first_term-returns-then-not-is_minus
+first_term-returns-then-not-is_minus t c =
     record {
       less = c.term.ensures.less;
-      is = no_minus_either c.args.depth c.args.parser.now c.term.new.parser c.args.table.now c.term.new.table c.term.result (sym c.if-not-is-minus.ensures) c.term.ensures.is;
+      is = no_minus_either c.args.depth c.args.parser.now c.term.new.parser c.args.table.now c.term.new.table c.term.result (sym c.if-not-is_minus.ensures) c.term.ensures.is;
     }
 
 pub bracketed-returns-in-err-part : goal.bracketed-returns-in-err-part

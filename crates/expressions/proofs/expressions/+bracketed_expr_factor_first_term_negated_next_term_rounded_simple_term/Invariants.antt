@@ -20,14 +20,14 @@ decreases-factor l = 6 * unread l.parser.now + 1
 abbrev pub decreases-term : goal.decreases-term
 decreases-term l = 6 * unread l.parser.now + 2
 
-abbrev pub decreases-first-term : goal.decreases-first-term
-decreases-first-term l = 6 * unread l.parser.now + 3
+abbrev pub decreases-first_term : goal.decreases-first_term
+decreases-first_term l = 6 * unread l.parser.now + 3
 
 abbrev pub decreases-simple : goal.decreases-simple
 decreases-simple l = 6 * unread l.parser.now + 4
 
-abbrev pub decreases-next-term : goal.decreases-next-term
-decreases-next-term l = 6 * unread l.parser.now + 5
+abbrev pub decreases-next_term : goal.decreases-next_term
+decreases-next_term l = 6 * unread l.parser.now + 5
 
 abbrev pub decreases-expr : goal.decreases-expr
 decreases-expr l = 6 * unread l.parser.now + 5

@@ -15,6 +15,6 @@ kept ds h = go (leb (value ds) 2147483647) refl
 
 pub returns : goal.returns
 returns c =
-    let e : c.unwrap-or.result ≡ pos (value c.args.digits.now) = c.unwrap-or.ensures ∙ ap (λ o. unwrap_or o (pos 0)) c.decimal.ensures ∙ kept c.args.digits.now c.requires in
-    let f : SFits w32 c.unwrap-or.result = search rules in
+    let e : c.unwrap_or.result ≡ pos (value c.args.digits.now) = c.unwrap_or.ensures ∙ ap (λ o. unwrap_or o (pos 0)) c.decimal.ensures ∙ kept c.args.digits.now c.requires in
+    let f : SFits w32 c.unwrap_or.result = search rules in
     simp to_z-of_z e

@@ -11,8 +11,8 @@ loop-rest-preserved c =
     let run = run_step (test c.args.class) xs some (sym c.if-not-has.ensures) in
     (omega arith, omega arith)
 
-pub returns-in-default : goal.returns-in-default
-returns-in-default c =
+pub returns-in_default : goal.returns-in_default
+returns-in_default c =
     let xs = c.loop-rest.rest.now in
     let none : length xs ≡ 0 = omega (arith, bools) in
     let stop = run_stop (test c.args.class) xs (λ h. absurd (omega arith)) in

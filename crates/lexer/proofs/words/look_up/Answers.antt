@@ -8,7 +8,7 @@ pub loop-rest-preserved : goal.loop-rest-preserved
 loop-rest-preserved c =
     let xs = c.loop-rest.rest.now in
     let some : 0 < length xs = omega (arith, bools) in
-    row_step (lowered c.args.word.now) xs _ some (sym c.if-same-word.ensures) ∙ c.loop-rest.invariant
+    row_step (lowered c.args.word.now) xs _ some (sym c.if-same_word.ensures) ∙ c.loop-rest.invariant
 
 pub returns : goal.returns
 returns c =

@@ -18,16 +18,16 @@ loop-left-preserved c =
     let k : 0 < length ys = omega (arith, bools) in
     same_step xs ys h k (sym c.lowered.ensures ∙ c.if-lowered.false ∙ c.lowered-in-len1-up-len1-up.ensures) ∙ c.loop-left.invariant
 
-pub returns-in-default : goal.returns-in-default
-returns-in-default c =
+pub returns-in_default : goal.returns-in_default
+returns-in_default c =
     let xs = c.loop-left.left.now in
     let ys = c.loop-left.right.now in
     let h : length xs ≡ 0 = omega (arith, bools) in
     let k : 0 < length ys = omega (arith, bools) in
     sym (longer_right xs ys h k) ∙ c.loop-left.invariant
 
-pub returns-in-default·2 : goal.returns-in-default·2
-returns-in-default·2 c =
+pub returns-in_default·2 : goal.returns-in_default·2
+returns-in_default·2 c =
     let xs = c.loop-left.left.now in
     let ys = c.loop-left.right.now in
     let h : 0 < length xs = omega (arith, bools) in

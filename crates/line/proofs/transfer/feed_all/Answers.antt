@@ -4,18 +4,18 @@ use Rattle.line.specs.Queues.{enqueued}
 use Rattle.line.proofs.Moving.{enqueued_full, fed_more, fed_until, fed_all}
 use Rattle.line.proofs.transfer.feed_all.Goals as goal
 
-pub returns-then-not-feed-one : goal.returns-then-not-feed-one
-returns-then-not-feed-one g c =
+pub returns-then-not-feed_one : goal.returns-then-not-feed_one
+returns-then-not-feed_one g c =
     let line = g.L.Line in
     let l = c.loop-i.line in
-    let full = c.if-not-feed-one.ensures.answer in
+    let full = c.if-not-feed_one.ensures.answer in
     let within = g.met.L.Line.readings_within l in
     let number : ℤ = get_or c.args.numbers.now c.loop-i.i (pos 0) in
-    let fed : line.readings c.feed-one.new.line ≡ enqueued line.max_readings (to_z w32 (of_z w32 number)) (line.readings l) = c.feed-one.ensures.readings in
+    let fed : line.readings c.feed_one.new.line ≡ enqueued line.max_readings (to_z w32 (of_z w32 number)) (line.readings l) = c.feed_one.ensures.readings in
     record {
       count = fed_until line.max_readings (line.readings c.args.line.now) c.args.numbers.now (line.readings l) c.loop-i.i c.loop-i.invariant.0 full within c.loop-i-test.true;
       readings = fed ∙ enqueued_full line.max_readings (to_z w32 (of_z w32 number)) (line.readings l) full ∙ c.loop-i.invariant.0;
-      sends = c.feed-one.ensures.sends ∙ c.loop-i.invariant.1;
+      sends = c.feed_one.ensures.sends ∙ c.loop-i.invariant.1;
     }
 
 pub loop-i-preserved : goal.loop-i-preserved

@@ -5,13 +5,13 @@ use Rattle.line.proofs.Moving.{none_of, none_left, more_left, removed_is, remove
 use Rattle.line.specs.Queues.{dequeued}
 use Rattle.line.proofs.transfer.next_all.Goals as goal
 
-pub returns-in-default : goal.returns-in-default
-returns-in-default g c =
+pub returns-in_default : goal.returns-in_default
+returns-in_default g c =
     let line = g.L.Line in
     let now = line.readings c.loop-count.line in
     let start = line.readings c.args.line.now in
     let inv = c.loop-count.invariant in
-    let none = c.in-default.ensures.answer in
+    let none = c.in_default.ensures.answer in
     let last : c.loop-count.count ≡ length start = none_left start now c.loop-count.count inv.2 inv.0 none in
     record {
       count = omega (arith, last, c.loop-count.auto.places);

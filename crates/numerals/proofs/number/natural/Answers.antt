@@ -19,6 +19,6 @@ pub returns : goal.returns
 returns c =
     let xs = c.args.word.now in
     let i = c.loop-b.b-index in
-    let some : 0 < length xs = omega (arith, false-eqb (length xs) 0 c.if-is-empty.ensures) in
+    let some : 0 < length xs = omega (arith, false-eqb (length xs) 0 c.if-is_empty.ensures) in
     let none : length (drop i xs) ≡ 0 = simp length-drop (omega arith) in
     sym (no_more c.args.most c.loop-b.n (drop i xs) none c.loop-b.invariant.1) ∙ c.loop-b.invariant.0 ∙ onward_all c.args.most xs some

@@ -3,10 +3,10 @@ use Rattle.parser.specs.Feeds.{known_of}
 use Rattle.reader.proofs.NamingSteps.{ends_refused, stays, goes_on, ends_there, takes, within, too_long, spelled_as}
 use Rattle.reader.proofs.naming.names_of.Goals as goal
 
-pub returns-then-text-gt-MAX-TEXT : goal.returns-then-text-gt-MAX-TEXT
-returns-then-text-gt-MAX-TEXT c =
+pub returns-then-text-gt-MAX_TEXT : goal.returns-then-text-gt-MAX_TEXT
+returns-then-text-gt-MAX_TEXT c =
     let bs = c.args.text.now in
-    let e = c.new-names.ensures.0 ∙ sym (too_long bs c.if-text-gt-MAX-TEXT.true) in
+    let e = c.new-names.ensures.0 ∙ sym (too_long bs c.if-text-gt-MAX_TEXT.true) in
     record { is = (e, omega arith); spelled = spelled_as bs (known_of c.new-names.result) e }
 
 pub returns-then-not-note : goal.returns-then-not-note
@@ -14,7 +14,7 @@ returns-then-not-note c =
     let bs = c.args.text.now in
     let l = c.loop-lexeme in
     let h = c.if-not-note.ensures in
-    let e = sym (ends_there l.at l.rest.now c.in-Ok.lexeme c.in-Ok.ensures l.names c.note.new.names h) ∙ l.invariant.0 ∙ sym (within bs c.if-text-gt-MAX-TEXT.false) in
+    let e = sym (ends_there l.at l.rest.now c.in-Ok.lexeme c.in-Ok.ensures l.names c.note.new.names h) ∙ l.invariant.0 ∙ sym (within bs c.if-text-gt-MAX_TEXT.false) in
     record { is = (e, h.0); spelled = spelled_as bs (known_of c.note.new.names) e }
 
 pub loop-lexeme-smaller : goal.loop-lexeme-smaller
@@ -34,5 +34,5 @@ pub returns : goal.returns
 returns c =
     let bs = c.args.text.now in
     let l = c.loop-lexeme in
-    let e = sym (ends_refused l.at l.rest.now (known_of l.names) c.in-default.field-0 c.in-default.ensures) ∙ l.invariant.0 ∙ sym (within bs c.if-text-gt-MAX-TEXT.false) in
+    let e = sym (ends_refused l.at l.rest.now (known_of l.names) c.in_default.field-0 c.in_default.ensures) ∙ l.invariant.0 ∙ sym (within bs c.if-text-gt-MAX_TEXT.false) in
     record { is = (e, l.invariant.2); spelled = spelled_as bs (known_of l.names) e }

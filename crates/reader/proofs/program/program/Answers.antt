@@ -18,8 +18,8 @@ returns-in-err-expect-3 c =
     let x = err_from_is_err_and c.from-residual-in-err-expect-3.result c.from-residual-in-err-expect-3.ensures.1 in
     rw (x.1, x.2) (no_period c.args.parser.now c.expect.new.self c.name.new.self c.expect-2.new.self c.args.table.now c.in-ok-name.field-0 c.requires.1 c.in-ok-name.ensures.0 c.in-ok-expect.ensures c.in-ok-name.ensures.1 c.in-ok-expect-2.ensures c.declarations.new.parser c.declarations.new.table c.in-ok-declarations.field-0 c.in-ok-declarations.ensures.is c.cmds.new.parser c.cmds.new.table c.in-ok-body.body c.in-ok-body.ensures.is c.in-err-expect-3.field-0.0 c.in-err-expect-3.ensures)
 
-pub returns-then-is-at : goal.returns-then-is-at
-returns-then-is-at c = whole c.args.parser.now c.expect.new.self c.name.new.self c.expect-2.new.self c.args.table.now c.in-ok-name.field-0 c.requires.1 c.in-ok-name.ensures.0 c.in-ok-expect.ensures c.in-ok-name.ensures.1 c.in-ok-expect-2.ensures c.declarations.new.parser c.declarations.new.table c.in-ok-declarations.field-0 c.in-ok-declarations.ensures.is c.cmds.new.parser c.cmds.new.table c.in-ok-body.body c.in-ok-body.ensures.is c.expect-3.new.self c.emit.new.self c.emit.new.table c.emit.result c.in-ok-expect-3.ensures c.emit.ensures (tt {0}) (sym c.if-is-at.ensures)
+pub returns-then-is_at : goal.returns-then-is_at
+returns-then-is_at c = whole c.args.parser.now c.expect.new.self c.name.new.self c.expect-2.new.self c.args.table.now c.in-ok-name.field-0 c.requires.1 c.in-ok-name.ensures.0 c.in-ok-expect.ensures c.in-ok-name.ensures.1 c.in-ok-expect-2.ensures c.declarations.new.parser c.declarations.new.table c.in-ok-declarations.field-0 c.in-ok-declarations.ensures.is c.cmds.new.parser c.cmds.new.table c.in-ok-body.body c.in-ok-body.ensures.is c.expect-3.new.self c.emit.new.self c.emit.new.table c.emit.result c.in-ok-expect-3.ensures c.emit.ensures (tt {0}) (sym c.if-is_at.ensures)
 
 pub returns : goal.returns
-returns c = no_stop c.args.parser.now c.expect.new.self c.name.new.self c.expect-2.new.self c.args.table.now c.in-ok-name.field-0 c.requires.1 c.in-ok-name.ensures.0 c.in-ok-expect.ensures c.in-ok-name.ensures.1 c.in-ok-expect-2.ensures c.declarations.new.parser c.declarations.new.table c.in-ok-declarations.field-0 c.in-ok-declarations.ensures.is c.cmds.new.parser c.cmds.new.table c.in-ok-body.body c.in-ok-body.ensures.is c.expect-3.new.self c.emit.new.self c.emit.new.table c.emit.result c.in-ok-expect-3.ensures c.emit.ensures c.refuse.result (sym c.if-is-at.ensures) c.refuse.ensures
+returns c = no_stop c.args.parser.now c.expect.new.self c.name.new.self c.expect-2.new.self c.args.table.now c.in-ok-name.field-0 c.requires.1 c.in-ok-name.ensures.0 c.in-ok-expect.ensures c.in-ok-name.ensures.1 c.in-ok-expect-2.ensures c.declarations.new.parser c.declarations.new.table c.in-ok-declarations.field-0 c.in-ok-declarations.ensures.is c.cmds.new.parser c.cmds.new.table c.in-ok-body.body c.in-ok-body.ensures.is c.expect-3.new.self c.emit.new.self c.emit.new.table c.emit.result c.in-ok-expect-3.ensures c.emit.ensures c.refuse.result (sym c.if-is_at.ensures) c.refuse.ensures

@@ -39,19 +39,19 @@ pub reserve-goto-requires : goal.reserve-goto-requires
 reserve-goto-requires t c =
     choice_goto (entries_of c.args.draft.now) c.args.draft.now.formed (types_of c.args.typing.now) c.requires c.in-Choice.ensures c.expression-in-Choice.ensures.emits c.reserve-jump.ensures.next c.command-in-Choice.ensures.emits
 
-pub jump-here-requires : goal.jump-here-requires
-jump-here-requires t c =
+pub jump_here-requires : goal.jump_here-requires
+jump_here-requires t c =
     omega (arith, choice_goto (entries_of c.args.draft.now) c.args.draft.now.formed (types_of c.args.typing.now) c.requires c.in-Choice.ensures c.expression-in-Choice.ensures.emits c.reserve-jump.ensures.next c.command-in-Choice.ensures.emits, c.reserve-goto.ensures.next)
 
 pub command-requires-in-Choice-2 : goal.command-requires-in-Choice-2
 command-requires-in-Choice-2 t c =
-    let next = c.jump-here.ensures.next ∙ c.reserve-goto.ensures.next in
+    let next = c.jump_here.ensures.next ∙ c.reserve-goto.ensures.next in
     let f = choice_else (entries_of c.args.draft.now) c.args.draft.now.formed (types_of c.args.typing.now) c.requires c.in-Choice.ensures c.expression-in-Choice.ensures.emits c.reserve-jump.ensures.next c.command-in-Choice.ensures.emits next in
     (omega (arith, c.decreases, f.0), f.1)
 
-pub go-here-requires : goal.go-here-requires
-go-here-requires t c =
-    choice_end (entries_of c.args.draft.now) c.args.draft.now.formed (types_of c.args.typing.now) c.requires c.in-Choice.ensures c.expression-in-Choice.ensures.emits c.reserve-jump.ensures.next c.command-in-Choice.ensures.emits c.reserve-goto.ensures.next c.jump-here.ensures.next c.command-in-Choice-2.ensures.emits
+pub go_here-requires : goal.go_here-requires
+go_here-requires t c =
+    choice_end (entries_of c.args.draft.now) c.args.draft.now.formed (types_of c.args.typing.now) c.requires c.in-Choice.ensures c.expression-in-Choice.ensures.emits c.reserve-jump.ensures.next c.command-in-Choice.ensures.emits c.reserve-goto.ensures.next c.jump_here.ensures.next c.command-in-Choice-2.ensures.emits
 
 pub expression-requires-in-Loop : goal.expression-requires-in-Loop
 expression-requires-in-Loop t c =
@@ -66,16 +66,16 @@ command-requires-in-Loop t c =
     let f = loop_body (entries_of c.args.draft.now) c.args.draft.now.formed (types_of c.args.typing.now) c.requires c.in-Loop.ensures c.expression-in-Loop.ensures.emits c.reserve-jump-in-Loop.ensures.next in
     (omega (arith, c.decreases, f.0), f.1)
 
-pub go-back-requires : goal.go-back-requires
-go-back-requires t c =
+pub go_back-requires : goal.go_back-requires
+go_back-requires t c =
     record { room = loop_back (entries_of c.args.draft.now) c.args.draft.now.formed (types_of c.args.typing.now) c.requires c.in-Loop.ensures c.expression-in-Loop.ensures.emits c.reserve-jump-in-Loop.ensures.next c.command-in-Loop.ensures.emits; target = loop_start (entries_of c.args.draft.now) c.args.draft.now.formed (types_of c.args.typing.now) c.requires c.in-Loop.ensures }
 
-pub jump-here-requires-in-Loop : goal.jump-here-requires-in-Loop
-jump-here-requires-in-Loop t c =
-    loop_end (entries_of c.args.draft.now) c.args.draft.now.formed (types_of c.args.typing.now) c.requires c.in-Loop.ensures c.expression-in-Loop.ensures.emits c.reserve-jump-in-Loop.ensures.next c.command-in-Loop.ensures.emits c.go-back.ensures.emits
+pub jump_here-requires-in-Loop : goal.jump_here-requires-in-Loop
+jump_here-requires-in-Loop t c =
+    loop_end (entries_of c.args.draft.now) c.args.draft.now.formed (types_of c.args.typing.now) c.requires c.in-Loop.ensures c.expression-in-Loop.ensures.emits c.reserve-jump-in-Loop.ensures.next c.command-in-Loop.ensures.emits c.go_back.ensures.emits
 
-pub input-by-requires : goal.input-by-requires
-input-by-requires t c =
+pub input_by-requires : goal.input_by-requires
+input_by-requires t c =
     input_name (entries_of c.args.draft.now) c.args.draft.now.formed (types_of c.args.typing.now) c.requires c.in-Input.ensures
 
 pub emit-requires-in-Input : goal.emit-requires-in-Input
@@ -118,21 +118,21 @@ returns-in-Seq t c =
 pub returns-in-Choice : goal.returns-in-Choice
 returns-in-Choice t c =
     record {
-      emits = choice_done (entries_of c.args.draft.now) c.args.draft.now.formed (types_of c.args.typing.now) c.requires c.in-Choice.ensures c.expression-in-Choice.ensures.emits c.reserve-jump.ensures.next c.command-in-Choice.ensures.emits c.reserve-goto.ensures.next c.jump-here.ensures.next c.command-in-Choice-2.ensures.emits c.reserve-jump.ensures.table c.reserve-jump.ensures.number c.reserve-goto.ensures.table c.jump-here.ensures.table c.reserve-goto.ensures.number c.go-here.ensures.table c.go-here.ensures.next;
-      lent = c.go-here.ensures.lent ∙ c.command-in-Choice-2.ensures.lent ∙ c.jump-here.ensures.lent ∙ c.reserve-goto.ensures.lent ∙ c.command-in-Choice.ensures.lent ∙ c.reserve-jump.ensures.lent ∙ c.expression-in-Choice.ensures.lent;
+      emits = choice_done (entries_of c.args.draft.now) c.args.draft.now.formed (types_of c.args.typing.now) c.requires c.in-Choice.ensures c.expression-in-Choice.ensures.emits c.reserve-jump.ensures.next c.command-in-Choice.ensures.emits c.reserve-goto.ensures.next c.jump_here.ensures.next c.command-in-Choice-2.ensures.emits c.reserve-jump.ensures.table c.reserve-jump.ensures.number c.reserve-goto.ensures.table c.jump_here.ensures.table c.reserve-goto.ensures.number c.go_here.ensures.table c.go_here.ensures.next;
+      lent = c.go_here.ensures.lent ∙ c.command-in-Choice-2.ensures.lent ∙ c.jump_here.ensures.lent ∙ c.reserve-goto.ensures.lent ∙ c.command-in-Choice.ensures.lent ∙ c.reserve-jump.ensures.lent ∙ c.expression-in-Choice.ensures.lent;
     }
 
 pub returns-in-Loop : goal.returns-in-Loop
 returns-in-Loop t c =
     record {
-      emits = loop_done (entries_of c.args.draft.now) c.args.draft.now.formed (types_of c.args.typing.now) c.requires c.in-Loop.ensures c.expression-in-Loop.ensures.emits c.reserve-jump-in-Loop.ensures.next c.command-in-Loop.ensures.emits c.go-back.ensures.emits c.reserve-jump-in-Loop.ensures.table c.reserve-jump-in-Loop.ensures.number c.jump-here-in-Loop.ensures.table c.jump-here-in-Loop.ensures.next;
-      lent = c.jump-here-in-Loop.ensures.lent ∙ c.go-back.ensures.lent ∙ c.command-in-Loop.ensures.lent ∙ c.reserve-jump-in-Loop.ensures.lent ∙ c.expression-in-Loop.ensures.lent;
+      emits = loop_done (entries_of c.args.draft.now) c.args.draft.now.formed (types_of c.args.typing.now) c.requires c.in-Loop.ensures c.expression-in-Loop.ensures.emits c.reserve-jump-in-Loop.ensures.next c.command-in-Loop.ensures.emits c.go_back.ensures.emits c.reserve-jump-in-Loop.ensures.table c.reserve-jump-in-Loop.ensures.number c.jump_here-in-Loop.ensures.table c.jump_here-in-Loop.ensures.next;
+      lent = c.jump_here-in-Loop.ensures.lent ∙ c.go_back.ensures.lent ∙ c.command-in-Loop.ensures.lent ∙ c.reserve-jump-in-Loop.ensures.lent ∙ c.expression-in-Loop.ensures.lent;
     }
 
 pub returns-in-Input : goal.returns-in-Input
 returns-in-Input t c =
     record {
-      emits = input_done (entries_of c.args.draft.now) c.args.draft.now.formed (types_of c.args.typing.now) c.requires c.in-Input.ensures c.input-by.ensures c.emit-in-Input.ensures.emits c.emit-in-Input-2.ensures.emits;
+      emits = input_done (entries_of c.args.draft.now) c.args.draft.now.formed (types_of c.args.typing.now) c.requires c.in-Input.ensures c.input_by.ensures c.emit-in-Input.ensures.emits c.emit-in-Input-2.ensures.emits;
       lent = c.emit-in-Input-2.ensures.lent ∙ c.emit-in-Input.ensures.lent;
     }
 

@@ -19,30 +19,30 @@ emit-requires-in-Uny t c = uny_room (entries_of c.args.draft.now) c.args.draft.n
 
 pub expression-requires-in-Bin : goal.expression-requires-in-Bin
 expression-requires-in-Bin t c =
-    let o = c.in-order-operands.ensures in
+    let o = c.in_order-operands.ensures in
     let f = bin_first (entries_of c.args.draft.now) c.args.draft.now.formed c.requires c.in-Bin.ensures o.first o.last in
     (omega (arith, c.decreases, f.0), f.1)
 
 pub emit-requires-in-Bin : goal.emit-requires-in-Bin
 emit-requires-in-Bin t c =
-    let o = c.in-order-operands.ensures in
+    let o = c.in_order-operands.ensures in
     bin_keep (entries_of c.args.draft.now) c.args.draft.now.formed c.requires c.in-Bin.ensures o.first o.last c.expression-in-Bin.ensures.emits
 
-pub next-cell-requires : goal.next-cell-requires
-next-cell-requires t c =
-    let o = c.in-order-operands.ensures in
+pub next_cell-requires : goal.next_cell-requires
+next_cell-requires t c =
+    let o = c.in_order-operands.ensures in
     bin_cell (entries_of c.args.draft.now) c.args.draft.now.formed c.requires c.in-Bin.ensures o.first o.last
 
 pub expression-requires-in-Bin-2 : goal.expression-requires-in-Bin-2
 expression-requires-in-Bin-2 t c =
-    let o = c.in-order-operands.ensures in
-    let f = bin_last (entries_of c.args.draft.now) c.args.draft.now.formed c.requires c.in-Bin.ensures o.first o.last c.expression-in-Bin.ensures.emits c.emit-in-Bin.ensures.emits c.next-cell.ensures in
+    let o = c.in_order-operands.ensures in
+    let f = bin_last (entries_of c.args.draft.now) c.args.draft.now.formed c.requires c.in-Bin.ensures o.first o.last c.expression-in-Bin.ensures.emits c.emit-in-Bin.ensures.emits c.next_cell.ensures in
     (omega (arith, c.decreases, f.0), f.1)
 
 pub emit-requires-in-Bin-2 : goal.emit-requires-in-Bin-2
 emit-requires-in-Bin-2 t c =
-    let o = c.in-order-operands.ensures in
-    bin_room (entries_of c.args.draft.now) c.args.draft.now.formed c.requires c.in-Bin.ensures o.first o.last c.expression-in-Bin.ensures.emits c.emit-in-Bin.ensures.emits c.next-cell.ensures c.expression-in-Bin-2.ensures.emits
+    let o = c.in_order-operands.ensures in
+    bin_room (entries_of c.args.draft.now) c.args.draft.now.formed c.requires c.in-Bin.ensures o.first o.last c.expression-in-Bin.ensures.emits c.emit-in-Bin.ensures.emits c.next_cell.ensures c.expression-in-Bin-2.ensures.emits
 
 pub returns-in-Const : goal.returns-in-Const
 returns-in-Const t c =
@@ -67,8 +67,8 @@ returns-in-Uny t c =
 
 pub returns-in-Bin : goal.returns-in-Bin
 returns-in-Bin t c =
-    let o = c.in-order-operands.ensures in
+    let o = c.in_order-operands.ensures in
     record {
-      emits = bin_done (entries_of c.args.draft.now) c.args.draft.now.formed c.requires c.in-Bin.ensures o.first o.last c.expression-in-Bin.ensures.emits c.emit-in-Bin.ensures.emits c.next-cell.ensures c.expression-in-Bin-2.ensures.emits c.emit-in-Bin-2.ensures.emits;
+      emits = bin_done (entries_of c.args.draft.now) c.args.draft.now.formed c.requires c.in-Bin.ensures o.first o.last c.expression-in-Bin.ensures.emits c.emit-in-Bin.ensures.emits c.next_cell.ensures c.expression-in-Bin-2.ensures.emits c.emit-in-Bin-2.ensures.emits;
       lent = c.emit-in-Bin-2.ensures.lent ∙ c.expression-in-Bin-2.ensures.lent ∙ c.emit-in-Bin.ensures.lent ∙ c.expression-in-Bin.ensures.lent;
     }

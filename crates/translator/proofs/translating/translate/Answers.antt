@@ -8,7 +8,7 @@ pub returns : goal.returns
 returns c =
     let d = c.args.routine.now.draft in
     let is = code (tree_of d) in
-    let e = c.emit-all-count.ensures in
+    let e = c.emit_all-count.ensures in
     let s = c.settle.ensures in
     let cap = length c.args.table.now in
     let answer = s.is ∙ answer_is is cap c.empty.ensures e.table e.count in

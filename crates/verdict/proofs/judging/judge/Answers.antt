@@ -28,4 +28,4 @@ returns-in-Err-check c =
     let a = accepted_by o c.in-Ok.count c.in-Ok.ensures.is in
     let m = c.in-Ok-open.ensures.made in
     let e : entries_of d ≡ a.0.entries = ap (λ k. take k d.nodes) m.0 ∙ entries_are o a.0 c.read.new.table d.nodes c.in-Ok.count a.1 a.2 c.in-Ok.ensures.table c.in-Ok.ensures.explained.opens m.1 in
-    (a.0, a.1, ap (λ (t : List Entry). checking (program_of t)) (sym e) ∙ sym c.in-Err-check.ensures.is, c.entry-at-entry.ensures ∙ ap (λ (t : List Entry). get_or t c.in-Err-check.violation.node blank) (c.entries.ensures ∙ e))
+    (a.0, a.1, ap (λ (t : List Entry). checking (program_of t)) (sym e) ∙ sym c.in-Err-check.ensures.is, c.entry_at-entry.ensures ∙ ap (λ (t : List Entry). get_or t c.in-Err-check.violation.node blank) (c.entries.ensures ∙ e))

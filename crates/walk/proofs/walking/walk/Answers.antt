@@ -2,7 +2,7 @@ use Rattle.std.proofs.Common.{◌<◌, length, inl, inr, arith, rules}
 use Rattle.draft.specs.Opening.{entries_of}
 use Rattle.walk.proofs.Filling.{turn_length, turn_ready, turn_some, turn_none, turn_last}
 use Rattle.walk.proofs.walking.walk.Goals as goal
-use Rattle.walk.proofs.walking.walk.Goals.{in-Some, in-default}
+use Rattle.walk.proofs.walking.walk.Goals.{in-Some, in_default}
 
 pub shape-of-answers-then-n-answers : goal.shape-of-answers-then-n-answers
 shape-of-answers-then-n-answers g c = turn_length _ _ c.args.draft.now.formed _ _ _ c.loop-n.invariant
@@ -29,9 +29,9 @@ loop-n-preserved g c =
       | in-Some w ↦
           turn_some _ _ c.args.draft.now.formed _ _ _ c.loop-n.invariant _ c.entries-entry-items.ensures c.loop-n-test.true c.if-n-answers.false _ c.node.ensures _ c.answer.ensures
           _ w.in-Some.is _ w.answers-is
-      | in-default w ↦
+      | in_default w ↦
           turn_none _ _ c.args.draft.now.formed _ _ _ c.loop-n.invariant _ c.entries-entry-items.ensures c.loop-n-test.true c.if-n-answers.false _ c.node.ensures _ c.answer.ensures
-          w.in-default.is _ w.answers-is
+          w.in_default.is _ w.answers-is
     ]
 
 pub returns-then-n-answers : goal.returns-then-n-answers

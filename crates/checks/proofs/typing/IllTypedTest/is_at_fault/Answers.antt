@@ -17,5 +17,5 @@ on-requires-in-Assign c =
 
 pub on-requires-in-Choice : goal.on-requires-in-Choice
 on-requires-in-Choice c =
-    let f = tested_part (entries_of c.args.draft.now) c.args.draft.now.formed c.args.n c.requires c.node-at.result c.node-at.ensures c.in-Choice.a c.in-Choice.is in
+    let f = tested_part (entries_of c.args.draft.now) c.args.draft.now.formed c.args.n c.requires c.node_at.result c.node_at.ensures c.in-Choice.a c.in-Choice.is in
     omega (arith, f, node_below c.args.draft.now c.args.n c.requires)

@@ -7,7 +7,7 @@ pub returns-in-Token : goal.returns-in-Token
 returns-in-Token c =
     let xs = c.args.text.now in
     let k = c.args.refusal.place in
-    c.no-token.ensures ∙ ap no_token (drop_within xs k c.min.result c.min.ensures) ∙ ap (λ q. sentence q (drop k xs)) (sym c.in-Token.is)
+    c.no_token.ensures ∙ ap no_token (drop_within xs k c.min.result c.min.ensures) ∙ ap (λ q. sentence q (drop k xs)) (sym c.in-Token.is)
 
 pub returns-in-Grammar : goal.returns-in-Grammar
 returns-in-Grammar c =

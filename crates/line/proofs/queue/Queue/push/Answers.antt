@@ -4,11 +4,11 @@ use Rattle.line.specs.Places.{place}
 use Rattle.line.specs.Holding.{room, refused, appended}
 use Rattle.line.proofs.queue.Queue.push.Goals as goal
 
-pub returns-then-not-has-room : goal.returns-then-not-has-room
-returns-then-not-has-room g c =
+pub returns-then-not-has_room : goal.returns-then-not-has_room
+returns-then-not-has_room g c =
     let q = c.args.self.now in
     let cell = g.C.Cells.cell q.cells in
-    let full : false ≡ ltb q.len g.row.SIZE = c.if-not-has-room.ensures in
+    let full : false ≡ ltb q.len g.row.SIZE = c.if-not-has_room.ensures in
     record {
       answer = full ∙ room g.row.SIZE cell q.head q.len;
       after = refused g.row.SIZE cell q.head q.len c.args.number full;

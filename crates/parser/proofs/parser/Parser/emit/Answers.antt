@@ -10,11 +10,11 @@ returns-else-number-table c =
     let p = c.args.self.now in
     let T = c.args.table.now in
     let e = entry c.args.node c.args.place in
-    let is = c.next-number-number.ensures.0 in
-    subst (λ q. Listed p T c.args.node c.args.place c.next-number-number.result q T) (sym c.next-number-number.ensures.1) (record {
+    let is = c.next_number-number.ensures.0 in
+    subst (λ q. Listed p T c.args.node c.args.place c.next_number-number.result q T) (sym c.next_number-number.ensures.1) (record {
       number = is;
       count = refl;
       same = refl;
       ready = counted p (p.count + 1);
-      wrote = sym (set_past T c.next-number-number.result e c.if-number-table.false) ∙ ap (λ i. set T i e) is;
+      wrote = sym (set_past T c.next_number-number.result e c.if-number-table.false) ∙ ap (λ i. set T i e) is;
     })

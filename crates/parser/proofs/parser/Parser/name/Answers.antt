@@ -5,8 +5,8 @@ use Rattle.parser.proofs.parser.Parser.name.Goals as goal
 pub returns : goal.returns
 returns c = named c.args.self.now c.fetch.new.self c.in-Name.word c.number.new.self c.in-Some.number c.requires c.in-Name.is c.in-Some.ensures c.in-ok-fetch.ensures
 
-pub returns-in-default-number : goal.returns-in-default-number
-returns-in-default-number c = name_many c.args.self.now c.in-Name.word c.number.new.self c.refuse-in-default-number.result c.in-Name.is c.in-default-number.ensures c.refuse-in-default-number.ensures
+pub returns-in_default-number : goal.returns-in_default-number
+returns-in_default-number c = name_many c.args.self.now c.in-Name.word c.number.new.self c.refuse-in_default-number.result c.in-Name.is c.in_default-number.ensures c.refuse-in_default-number.ensures
 
 pub returns-in-err-fetch : goal.returns-in-err-fetch
 returns-in-err-fetch c =

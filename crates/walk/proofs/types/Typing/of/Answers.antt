@@ -2,7 +2,7 @@ use Rattle.std.proofs.Common.{ap, ◌∙◌}
 use Rattle.walk.specs.declared.types.Typing.{Typing}
 use Rattle.walk.proofs.Declaring.{gathered_none, gathered_more, gathered_same, gathered_all, name_below}
 use Rattle.walk.proofs.types.Typing.of.Goals as goal
-use Rattle.walk.proofs.types.Typing.of.Goals.{in-Some, in-default}
+use Rattle.walk.proofs.types.Typing.of.Goals.{in-Some, in_default}
 
 pub declare-requires : goal.declare-requires
 declare-requires c =
@@ -15,9 +15,9 @@ loop-entry-preserved c =
       | in-Some w ↦
           gathered_more _ c.args.draft.now.formed _ _ c.loop-entry.invariant _ c.entries-entry-items.ensures c.loop-entry-test.true _ c.node.ensures _ c.declaration.ensures
           _ _ w.in-Some.is _ (ap (λ (s : Typing). s.types) w.typing-is ∙ w.declare.ensures)
-      | in-default w ↦
+      | in_default w ↦
           gathered_same _ c.args.draft.now.formed _ _ c.loop-entry.invariant _ c.entries-entry-items.ensures c.loop-entry-test.true _ c.node.ensures _ c.declaration.ensures
-          w.in-default.is _ (ap (λ (s : Typing). s.types) w.typing-is)
+          w.in_default.is _ (ap (λ (s : Typing). s.types) w.typing-is)
     ]
 
 pub loop-entry-init : goal.loop-entry-init

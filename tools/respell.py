@@ -76,9 +76,19 @@ def other_spelling(word):
     return "-" in word or (word[0].islower() and re.search(r"[A-Z]", word) is not None)
 
 
+# Lemmas whose spelling would be that of a definition in some file: they get _lem.
+LEMMAS = set()
+
+
 def snake(word):
     if word in EXCEPT:
         return EXCEPT[word]
+    if word in LEMMAS:
+        return plain(word) + "_lem"
+    return plain(word)
+
+
+def plain(word):
     w = word.replace("-", "_")
     w = re.sub(r"([a-z0-9])([A-Z])", r"\1_\2", w)
     w = re.sub(r"([A-Z])([A-Z][a-z])", r"\1_\2", w)
@@ -132,24 +142,44 @@ def fields():
     return names
 
 
+def words_of(text):
+    """The words that a file defines or takes from this repository and that have another spelling."""
+    own, foreign = imports(text)
+    return {n for n in (own | defined(text)) - (foreign - own) if other_spelling(n)}
+
+
+def find_lemmas():
+    for p in files(".antt"):
+        text = open(p).read()
+        groups = collections.defaultdict(set)
+        for n in words_of(text) | {n for n in defined(text) | imports(text)[0] if not other_spelling(n)}:
+            groups[n if n[0].isupper() and "-" not in n else snake(n)].add(n)
+        for names in groups.values():
+            if len(names) > 1:
+                LEMMAS.update(n for n in names if "-" in n)
+
+
 def respell_antt(path, FIELDS, report):
     text = open(path).read()
-    own, foreign = imports(text)
-    ours = {n for n in (own | defined(text)) - (foreign - own) if other_spelling(n)}
+    ours = words_of(text)
     aliases = module_aliases(text)
+    groups = collections.defaultdict(set)
+    for n in ours:
+        groups[snake(n)].add(n)
+    report += [(path, *sorted(names)) for names in groups.values() if len(names) > 1]
     taken = set(TOKEN.findall(USE.sub(r"\3", re.sub(r"[\w'-]+(\.[\w'+-]+)+\.Go(als)|Rattle\.[\w.+-]+ as \w+", "", stripped(text)))))
 
     def word(m):
         w = m.group(0)
         before = text[: m.start()]
         if re.search(r"[{;]\s*$", before[-200:]) and re.match(r" = ", text[m.end() : m.end() + 3]) and other_spelling(w):
-            return snake(w)
+            return plain(w)
         if before.endswith("."):
             head = re.search(r"([\w'.-]+)\.$", before[-200:])
             if head and (head.group(1) in aliases or own_path(head.group(1) + ".x") and text[m.end() : m.end() + 1] not in ".{") and other_spelling(w):
                 return snake(w)
             if w in FIELDS and other_spelling(w):
-                return snake(w)
+                return plain(w)
             return w
         if w in ours:
             n = snake(w)
@@ -210,6 +240,7 @@ def respell_members(text, names):
 def main():
     report = []
     MEMBERS = members() | BOUND
+    find_lemmas()
     FIELDS = fields()
     todo = []
     for p in files(".antt"):

@@ -200,4 +200,4 @@ pub tested : Tests
 tested = record { one = λ a. is_bit (is_zero a); two = test_bit }
 
 pub worked : Worked
-worked = record { half = refl; negative-half = refl; toward_zero = refl; above = refl; least = refl; by_zero = refl }
+worked = record { half = refl; negative_half = refl; toward_zero = refl; above = refl; least = refl; by_zero = refl }

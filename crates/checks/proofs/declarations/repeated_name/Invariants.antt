@@ -6,5 +6,5 @@ use Rattle.statics.specs.Checking.{again}
 use Rattle.checks.proofs.Repeats.{Left}
 use Rattle.checks.proofs.declarations.repeated_name.Given as goal
 
-abbrev pub invariant-loop-n : goal.invariant_loop_n
+abbrev pub invariant-loop-n : goal.invariant-loop-n
 invariant-loop-n l = lowest (again [] (program_of (entries_of l.draft)).decls) ≡ Left (entries_of l.draft) l.seen.bits l.n

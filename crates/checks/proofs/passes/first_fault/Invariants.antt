@@ -3,7 +3,7 @@ use Rattle.draft.specs.Opening.{entries_of}
 use Rattle.statics.specs.Scanning.{first_of}
 use Rattle.checks.proofs.passes.first_fault.Given as goal
 
-abbrev pub invariant-loop-n : goal.invariant_loop_n
+abbrev pub invariant-loop-n : goal.invariant-loop-n
 invariant-loop-n g l =
     let f = g.T.Test.faulty l.test (entries_of l.draft) in
     let m = length (entries_of l.draft) in

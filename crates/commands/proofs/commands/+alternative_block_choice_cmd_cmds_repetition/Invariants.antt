@@ -5,26 +5,26 @@ use Rattle.parser.proofs.Loops.{Looped}
 use Rattle.commands.proofs.commands.+alternative_block_choice_cmd_cmds_repetition.Given as goal
 
 -- unread tokens, and a level for each function
-abbrev pub decreases-alternative : goal.decreases_alternative
+abbrev pub decreases-alternative : goal.decreases-alternative
 decreases-alternative l = 3 * unread l.parser.now
 
-abbrev pub decreases-block : goal.decreases_block
+abbrev pub decreases-block : goal.decreases-block
 decreases-block l = 3 * unread l.parser.now
 
-abbrev pub decreases-choice : goal.decreases_choice
+abbrev pub decreases-choice : goal.decreases-choice
 decreases-choice l = 3 * unread l.parser.now
 
-abbrev pub decreases-repetition : goal.decreases_repetition
+abbrev pub decreases-repetition : goal.decreases-repetition
 decreases-repetition l = 3 * unread l.parser.now
 
-abbrev pub decreases-cmd : goal.decreases_cmd
+abbrev pub decreases-cmd : goal.decreases-cmd
 decreases-cmd l = 3 * unread l.parser.now + 1
 
-abbrev pub decreases-cmds : goal.decreases_cmds
+abbrev pub decreases-cmds : goal.decreases-cmds
 decreases-cmds l = 3 * unread l.parser.now + 2
 
-abbrev pub invariant-cmds-loop-place : goal.invariant_cmds_loop_place
+abbrev pub invariant-cmds-loop-place : goal.invariant-cmds-loop-place
 invariant-cmds-loop-place l = Looped cmds l.depth l.initial.all l.initial.parser l.initial.table l.all l.parser l.table
 
-abbrev pub decreases-cmds-loop-place : goal.decreases_cmds_loop_place
+abbrev pub decreases-cmds-loop-place : goal.decreases-cmds-loop-place
 decreases-cmds-loop-place l = unread l.parser

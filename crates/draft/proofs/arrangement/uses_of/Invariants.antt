@@ -3,5 +3,5 @@ use Rattle.tosca.specs.Opens.{all_uses}
 use Rattle.draft.specs.Uses.{Counts}
 use Rattle.draft.proofs.arrangement.uses_of.Given as goal
 
-abbrev pub invariant-loop-entry : goal.invariant_loop_entry
+abbrev pub invariant-loop-entry : goal.invariant-loop-entry
 invariant-loop-entry l = (length l.uses ≡ 1024) × Counts l.uses (λ k. all_uses k (take l.entry-index l.entries))

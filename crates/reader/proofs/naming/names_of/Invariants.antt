@@ -5,8 +5,8 @@ use Rattle.parser.specs.Feeds.{known_of}
 use Rattle.reader.specs.Naming.{gathered}
 use Rattle.reader.proofs.naming.names_of.Given as goal
 
-abbrev pub invariant-loop-lexeme : goal.invariant_loop_lexeme
+abbrev pub invariant-loop-lexeme : goal.invariant-loop-lexeme
 invariant-loop-lexeme l = (gathered (known_of l.names) (limited (scan l.at l.rest)) ≡ gathered nothing (limited (scan 0 l.text))) × (l.at + length l.rest ≤ 16384) × (l.names.count ≤ 64)
 
-abbrev pub decreases-loop-lexeme : goal.decreases_loop_lexeme
+abbrev pub decreases-loop-lexeme : goal.decreases-loop-lexeme
 decreases-loop-lexeme l = length l.rest

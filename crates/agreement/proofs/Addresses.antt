@@ -68,5 +68,5 @@ module _ (count : ℕ) where
   cmd_addressed ty p (input n x) f le = more _ _ (input_addressed (ty x)) (more _ [] (le-leb x 95 (omega (arith, f))) none)
   cmd_addressed ty p (output n e) f le = both (expr_code 64 e) _ (fitting e f) (more _ [] refl none)
 
-pub all_addressed : Addressed
-all_addressed p f = cmd_addressed (length (code p)) (type_in p.decls) 0 p.body f (omega (arith, length_cmd_code (type_in p.decls) 0 p.body))
+pub all_addressed_lem : Addressed
+all_addressed_lem p f = cmd_addressed (length (code p)) (type_in p.decls) 0 p.body f (omega (arith, length_cmd_code (type_in p.decls) 0 p.body))

@@ -71,12 +71,12 @@ module _ (F : ℕ → ℕ) where
         | inr q ↦ (let h : suc i ≤ p = omega arith in omega (arith, here_once p (suc i) es h (omega arith)))
       ]
 
-  part_sum : (ps : List Part) (t : List Entry) → Within (length t) ps → part_sum F ps ≤ sum (λ k e. uses k ps * F k) 0 t
+  part_sum_lem : (ps : List Part) (t : List Entry) → Within (length t) ps → part_sum F ps ≤ sum (λ k e. uses k ps * F k) 0 t
   unfolding part_sum
-  part_sum [] t w = omega arith
-  part_sum (p ∷ ps) t w =
+  part_sum_lem [] t w = omega arith
+  part_sum_lem (p ∷ ps) t w =
       let a = here_once p.at 0 t (omega arith) (omega (arith, w.0)) in
-      let b = part_sum ps t w.1 in
+      let b = part_sum_lem ps t w.1 in
       let c = sum_add (λ k e. cond (eqb p.at k) 1 0 * F k) (λ k e. uses k ps * F k) 0 t in
       let d = sum_le (λ k e. cond (eqb p.at k) 1 0 * F k + uses k ps * F k) (λ k e. (cond (eqb p.at k) 1 0 + uses k ps) * F k) 0 t (λ k lt. omega (arith, add-mul (cond (eqb p.at (0 + k)) 1 0) (uses (0 + k) ps) (F (0 + k)))) in
       omega arith
@@ -85,12 +85,12 @@ module _ (F : ℕ → ℕ) where
   all_parts [] = 0
   all_parts (e ∷ es) = part_sum F (parts (node e)) + all_parts es
 
-  all_parts : (es t : List Entry) → ((k : ℕ) → k < length es → Within (length t) (parts (node (get_or es k blank)))) → all_parts es ≤ sum (λ k e. all_uses k es * F k) 0 t
+  all_parts_lem : (es t : List Entry) → ((k : ℕ) → k < length es → Within (length t) (parts (node (get_or es k blank)))) → all_parts es ≤ sum (λ k e. all_uses k es * F k) 0 t
   unfolding all_parts
-  all_parts [] t w = omega arith
-  all_parts (x ∷ es) t w =
-      let a = part_sum (parts (node x)) t (w 0 (omega arith)) in
-      let b = all_parts es t (λ k lt. w (suc k) (omega arith)) in
+  all_parts_lem [] t w = omega arith
+  all_parts_lem (x ∷ es) t w =
+      let a = part_sum_lem (parts (node x)) t (w 0 (omega arith)) in
+      let b = all_parts_lem es t (λ k lt. w (suc k) (omega arith)) in
       let c = sum_add (λ k e. uses k (parts (node x)) * F k) (λ k e. all_uses k es * F k) 0 t in
       let d = sum_le (λ k e. uses k (parts (node x)) * F k + all_uses k es * F k) (λ k e. (uses k (parts (node x)) + all_uses k es) * F k) 0 t (λ k lt. omega (arith, add-mul (uses (0 + k) (parts (node x))) (all_uses (0 + k) es) (F (0 + k)))) in
       omega arith
@@ -243,7 +243,7 @@ module _ (t : List Entry) (formed : is_formed t ≡ true) where
 
   parts_at_most : all_parts size t ≤ sum (λ k e. size k) 0 t
   parts_at_most =
-      let a = all_parts size t t (λ k lt. within_by k lt (node (get_or t k blank)) refl) in
+      let a = all_parts_lem size t t (λ k lt. within_by k lt (node (get_or t k blank)) refl) in
       let b = sum_le (λ k e. all_uses k t * size k) (λ k e. size k) 0 t
       (from_zero (λ k e. all_uses k t * size k ≤ size k) t (λ k lt. once_by k lt (sort (node (get_or t k blank))) refl)) in
       omega arith

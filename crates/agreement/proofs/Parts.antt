@@ -41,5 +41,5 @@ has_type : (o : Option (Decl ℕ)) → is_declared o ≡ true → (y : SimpleTyp
 has_type (Some d) e = (d.type, refl)
 has_type None e = let k : ◌≡◌ {A = ℕ} 0 1 = cc in absurd (omega arith)
 
-pub declared_type : (ds : List (Decl ℕ)) (x : ℕ) → Declares ds x → (y : SimpleType) × (type_in ds x ≡ Some y)
-declared_type ds x d = has_type (decl_of ds x) (has_declared ds x d)
+pub declared_type_lem : (ds : List (Decl ℕ)) (x : ℕ) → Declares ds x → (y : SimpleType) × (type_in ds x ≡ Some y)
+declared_type_lem ds x d = has_type (decl_of ds x) (has_declared ds x d)

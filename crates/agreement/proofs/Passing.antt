@@ -17,7 +17,7 @@ use Rattle.statics.proofs.Paths.{found_unset}
 use Rattle.statics.proofs.Judging.{static_laws}
 use Rattle.agreement.specs.Premises.{ExprSet, CmdSet, ExprNames, ExprFits, CmdFits, Checked}
 use Rattle.agreement.proofs.Parts.{Each, first_of, second_of, then_of, else_of, body_of}
-use Rattle.agreement.proofs.Addresses.{all_addressed}
+use Rattle.agreement.proofs.Addresses.{all_addressed_lem}
 use Rattle.agreement.proofs.Typing.{never_stuck}
 use Rattle.agreement.proofs.Agree.{agreement}
 use Rattle.agreement.specs.Passed.{Passed, PassedCode, PassedRuns, PassedAgreement}
@@ -113,7 +113,7 @@ pub passed_checked : (t : List Entry) → Passed t → Checked (program_of t)
 passed_checked t q = sound_checked (program_of t) ((static_laws (program_of t)).passing.to q.passes) (below t q.formed)
 
 pub passed_code : PassedCode
-passed_code t q = all_addressed (program_of t) (passed_checked t q).fits
+passed_code t q = all_addressed_lem (program_of t) (passed_checked t q).fits
 
 pub passed_runs : PassedRuns
 passed_runs t q = never_stuck (program_of t) (passed_checked t q)

@@ -17,15 +17,15 @@ use Rattle.statics.specs.Setting.{Vars, no_vars, with, in_both, after}
 use Rattle.statics.specs.StaticLaws.{Declares}
 use Rattle.agreement.specs.Premises.{ExprSet, CmdSet, Checked}
 use Rattle.agreement.specs.NeverStuck.{NeverStuck}
-use Rattle.agreement.proofs.Parts.{Each, first_of, second_of, then_of, else_of, body_of, declared_type}
+use Rattle.agreement.proofs.Parts.{Each, first_of, second_of, then_of, else_of, body_of, declared_type_lem}
 use Rattle.statics.proofs.Booleans.{true_false, both_true}
 use Rattle.agreement.proofs.Truths.{both, either}
 
-same_type : (t u : SimpleType) → t ≡ u → same_type t u ≡ true
-same_type Integer Integer e = refl
-same_type Integer Boolean e = let k : ◌≡◌ {A = ℕ} 0 1 = cc in absurd (omega arith)
-same_type Boolean Integer e = let k : ◌≡◌ {A = ℕ} 0 1 = cc in absurd (omega arith)
-same_type Boolean Boolean e = refl
+same_type_lem : (t u : SimpleType) → t ≡ u → same_type t u ≡ true
+same_type_lem Integer Integer e = refl
+same_type_lem Integer Boolean e = let k : ◌≡◌ {A = ℕ} 0 1 = cc in absurd (omega arith)
+same_type_lem Boolean Integer e = let k : ◌≡◌ {A = ℕ} 0 1 = cc in absurd (omega arith)
+same_type_lem Boolean Boolean e = refl
 
 type_of : (t : SimpleType) (z : ℤ) → value_type (value_of t z) ≡ t
 type_of Integer z = refl
@@ -71,13 +71,13 @@ module _ (ds : List (Decl ℕ)) where
   sound_eval S s h (uny n o e) t p r =
       subst (λ u. SoundValue u (on_value (eval s e) (eval_unary n o))) p.0
       (sound_on (unary_type o) (unary_type o) (eval s e) (eval_unary n o) (sound_eval S s h e (unary_type o) p.1 r)
-      (λ v f. sound_computed (same_type (value_type v) (unary_type o)) n (unary_type o) (unary o (number v)) (same_type (value_type v) (unary_type o) f)))
+      (λ v f. sound_computed (same_type (value_type v) (unary_type o)) n (unary_type o) (unary o (number v)) (same_type_lem (value_type v) (unary_type o) f)))
   sound_eval S s h (bin n l o r) t p q =
       subst (λ u. SoundValue u (on_value (eval s r) (λ w. on_value (eval s l) (λ v. eval_binary n o v w)))) p.0
       (sound_on (binary_takes o) (binary_gives o) (eval s r) (λ w. on_value (eval s l) (λ v. eval_binary n o v w)) (sound_eval S s h r (binary_takes o) p.2 q.1)
       (λ w fw. sound_on (binary_takes o) (binary_gives o) (eval s l) (λ v. eval_binary n o v w) (sound_eval S s h l (binary_takes o) p.1 q.0)
       (λ v fv. sound_computed (same_type (value_type v) (binary_takes o) && same_type (value_type w) (binary_takes o)) n (binary_gives o) (binary o (number v) (number w))
-      (both (same_type (value_type v) (binary_takes o)) (same_type (value_type w) (binary_takes o)) (same_type (value_type v) (binary_takes o) fv) (same_type (value_type w) (binary_takes o) fw)))))
+      (both (same_type (value_type v) (binary_takes o)) (same_type (value_type w) (binary_takes o)) (same_type_lem (value_type v) (binary_takes o) fv) (same_type_lem (value_type w) (binary_takes o) fw)))))
 
   abbrev Sound : Vars → Outcome → Type 0
   Sound S (goes_on t) = Fine S t.variables
@@ -118,7 +118,7 @@ module _ (ds : List (Decl ℕ)) where
   unfolding assigned
   sound_assigned S s x v y e f h =
       subst (λ o. Sound (with x S) (assigned s x v o)) (sym e)
-      (rw (same_type (value_type v) y f) (sound_updated S s.variables x v (e ∙ ap (λ (t : SimpleType). Some t) (sym f)) h))
+      (rw (same_type_lem (value_type v) y f) (sound_updated S s.variables x v (e ∙ ap (λ (t : SimpleType). Some t) (sym f)) h))
 
   sound_received : (S : Vars) (s : State) (x : ℕ) (y : SimpleType) (rs : List ℤ) → ty x ≡ Some y → Fine S s.variables → Sound (with x S) (received s x (Some y) rs)
   unfolding received
@@ -182,7 +182,7 @@ module _ (ds : List (Decl ℕ)) where
     sound_exec (loop n e c) S p d r t h =
         sound_iterate S e (exec ty g c) p.0 r.0 (λ u hu. fewer (after c S) S (exec ty g c u) (λ x q. grows c S x q) (sound_exec c S p.1 (body_of (Declares ds) n e c d) r.1 u hu)) (g.turns - t.effects.turns) t h
     sound_exec (input n x) S p d r t h =
-        let y = declared_type ds x (d x (n, inr (inr refl))) in
+        let y = declared_type_lem ds x (d x (n, inr (inr refl))) in
         subst (λ o. Sound (with x S) (received t x o (drop t.effects.used g.readings))) (sym y.1) (sound_received S t x y.0 (drop t.effects.used g.readings) y.1 h)
     sound_exec (output n e) S p d r t h =
         sound_value p.0 S t (eval t.variables e) (λ v. sent_if (ltb (length t.effects.sent) g.sends) v t) (sound_eval S t.variables h e p.0 p.1 r)

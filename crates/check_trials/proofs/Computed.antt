@@ -15,4 +15,4 @@ unset_is = record { one = refl; both = refl }
 
 pub temporaries_are : Temporaries
 unfolding verdict_of checking unset after need fold chosen chosen_in program_of decls_from cmd_at cmd_by expr_at expr_by
-temporaries_are = record { enough = refl; tooFew = refl }
+temporaries_are = record { enough = refl; too_few = refl }

@@ -19,7 +19,7 @@ use Rattle.parser.specs.Advancing as tokens
 use Rattle.parser.specs.Parsing.{Goes, Takes, Parsed, Less}
 use Rattle.parser.specs.Parsing.{Roomy}
 use Rattle.parser.proofs.Chains.{chain, chain_stop, above, above_stop, lists, leaves}
-use Rattle.parser.proofs.CommandSteps.{clash, reads_on, cuts_off, misses, misses_mark, not_mark, is_mark, mark_few, turns}
+use Rattle.parser.proofs.CommandSteps.{clash, reads_on, cuts_off, misses, misses_mark, not_mark, is_mark_lem, mark_few, turns}
 use Rattle.commands.proofs.CommandSimple.{within_limit, listed_less}
 use Rattle.parser.proofs.Loops.{Looped}
 
@@ -122,8 +122,8 @@ pub skipped : (d : ℕ) (P Q : Parser) (T T' : List Entry) (r : ℕ) → is_cmd 
 skipped d P Q T T' r h l = λ L m. chain (turns P (λ s. not_cmd L s (next P) P.place (step list L (list (a_skip P.place) s) (next P) P.place) h)) (lists (a_skip P.place) (λ V es. refl) l)
 
 -- [else cmd]
-pub no_else : (d : ℕ) (P Q : Parser) (T T' : List Entry) (r : ℕ) → is_else (next P) ≡ false → Listed P T Skip P.place r Q T' → Parsed elses d P T Q T' (Ok r)
-no_else d P Q T T' r h l = λ L m. chain (turns P (λ s. ap (λ b. cond b (go (cmd ∷ L) s) (step list L (list (a_skip P.place) s) (next P) P.place)) h)) (lists (a_skip P.place) (λ V es. refl) l)
+pub no_else_lem : (d : ℕ) (P Q : Parser) (T T' : List Entry) (r : ℕ) → is_else (next P) ≡ false → Listed P T Skip P.place r Q T' → Parsed elses d P T Q T' (Ok r)
+no_else_lem d P Q T T' r h l = λ L m. chain (turns P (λ s. ap (λ b. cond b (go (cmd ∷ L) s) (step list L (list (a_skip P.place) s) (next P) P.place)) h)) (lists (a_skip P.place) (λ V es. refl) l)
 
 pub with_else : (d : ℕ) (P A Q : Parser) (T T' : List Entry) (r : Result ℕ Refusal) → d ≤ 32 → tokens.Read P else' A → Parsed cmd d A T Q T' r → Parsed elses d P T Q T' r
 with_else d P A Q T T' (Ok n) h a x = λ L m. chain (reads_on a (λ s. refl) (within_limit m h) refl) (x L m)
@@ -131,7 +131,7 @@ with_else d P A Q T T' (Err w) h a x = λ L m. chain_stop (reads_on a (λ s. ref
 
 -- {; cmd} end
 another_cmd : (L : List Sym) (s : Listing) (P : Parser) → is_mark Semicolon (next P) ≡ true → step list (cmds ∷ L) s (next P) P.place ≡ go (cmd ∷ does (a_seq P.place) ∷ cmds ∷ L) s
-another_cmd L s P h = is_mark Semicolon (next P) (go (cmd ∷ does (a_seq P.place) ∷ cmds ∷ L) s) (at_mark list End (next P) (go L s) stuck) h
+another_cmd L s P h = is_mark_lem Semicolon (next P) (go (cmd ∷ does (a_seq P.place) ∷ cmds ∷ L) s) (at_mark list End (next P) (go L s) stuck) h
 
 -- one more command
 goes_on : (d n m : ℕ) (P Q A : Parser) (T T₁ : List Entry) → d ≤ 32 → Looped cmds d n P T m Q T₁ → is_mark Semicolon (next Q) ≡ true → tokens.Read Q (next Q) A → (L : List Sym) → marks L ≡ d → Goes (cmds ∷ L) (n ∷ []) P.count T (ahead P) (cmd ∷ does (a_seq Q.place) ∷ cmds ∷ L) (m ∷ []) A.count T₁ (ahead A)

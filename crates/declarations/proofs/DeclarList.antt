@@ -17,7 +17,7 @@ use Rattle.parser.specs.Advancing.{is_mark, is_name, Read, Broken, Expected}
 use Rattle.parser.specs.Parsing.{Holds, reading, Goes, Stops}
 use Rattle.declarations.specs.Declaring.{Used, Passes, Drafted, Drafts, drafts, retyped, is_type, Untyped, is_begin, Unbegun, Begun, another, cut}
 use Rattle.parser.proofs.Chains.{chain, chain_stop, moves, takes}
-use Rattle.parser.proofs.CommandSteps.{clash, reads_on, turns, refused_here, cuts_off, misses_mark, not_mark, is_mark, mark_few, not_name}
+use Rattle.parser.proofs.CommandSteps.{clash, reads_on, turns, refused_here, cuts_off, misses_mark, not_mark, is_mark_lem, mark_few, not_name}
 use Rattle.declarations.proofs.DeclarNames.{shallow, retype_holds, declares_drafts}
 
 not_type : (t : Tok) (g : SimpleType → Move Listing) → is_type t ≡ false → at_type list t g ≡ stuck
@@ -87,7 +87,7 @@ no_vars P Q T (Ok u) h x = λ L m. reads_on x (λ s. refl) (deep m) refl
 no_vars P Q T (Err w) h x = λ L m. no_begin P w x (λ i s. not_mark Var (next P) (go (a_name [] ∷ L) s) (at_begin list (next P) (go (body L) s)) h ∙ not_begin (next P) (go (body L) s) i) (λ s. refl) m
 
 var : (P : Parser) (L : List Sym) (s : Listing) → is_mark Var (next P) ≡ true → step list (vars ∷ L) s (next P) P.place ≡ go (a_name [] ∷ L) s
-var P L s h = is_mark Var (next P) (go (a_name [] ∷ L) s) (at_begin list (next P) (go (body L) s)) h
+var P L s h = is_mark_lem Var (next P) (go (a_name [] ∷ L) s) (at_begin list (next P) (go (body L) s)) h
 
 pub some_vars : {X : Type 0} (P A Q : Parser) (T T' : List Entry) (r : Result X Refusal) → is_mark Var (next P) ≡ true → Read P (next P) A → Passes (λ L. a_name [] ∷ L) body A T Q T' r → Passes (λ L. vars ∷ L) body P T Q T' r
 some_vars P A Q T T' (Ok u) h a x = λ L m. chain (reads_on a (λ s. var P L s h) (shallow m) (mark_few Var (next P) h)) (x L m)

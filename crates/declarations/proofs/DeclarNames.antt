@@ -20,7 +20,7 @@ use Rattle.parser.specs.Advancing.{is_mark, Read, Broken, Expected, Listed}
 use Rattle.parser.specs.Parsing.{Holds, reading, refusal, Stops}
 use Rattle.declarations.specs.Declaring.{Used, Begun, Drafted, Drafts, drafts, retyped, retyped_entry}
 use Rattle.parser.proofs.Chains.{takes, holds_more}
-use Rattle.parser.proofs.CommandSteps.{is_mark, mark_few, not_mark, cuts_off, misses}
+use Rattle.parser.proofs.CommandSteps.{is_mark_lem, mark_few, not_mark, cuts_off, misses}
 
 append_nil : {A : Type 0} (xs : List A) → xs ++ [] ≡ xs
 append_nil [] = refl
@@ -122,7 +122,7 @@ pub naming : (P : Parser) (T : List Entry) → Ready P → Naming P T P T
 naming P T h = record { ready = h; fewer = omega arith; room = omega arith; is = ([], nothing_drafted P T) }
 
 comma : (P : Parser) → is_mark Comma (next P) ≡ true → (ms : List Named) (L : List Sym) (s : Listing) → step list (names ms ∷ L) s (next P) P.place ≡ go (a_name ms ∷ L) s
-comma P h ms L s = is_mark Comma (next P) (go (a_name ms ∷ L) s) (at_mark list Colon (next P) (go (type ms ∷ L) s) stuck) h
+comma P h ms L s = is_mark_lem Comma (next P) (go (a_name ms ∷ L) s) (at_mark list Colon (next P) (go (type ms ∷ L) s) stuck) h
 
 pub next_name : {A : Type 0} (P Q B C : Parser) (T T₁ T₂ : List Entry) (u : A) → Naming P T Q T₁ → is_mark Comma (next Q) ≡ true → Read Q (next Q) B → Used {A = A} B C (Ok u) → Drafts a_name names B T₁ C T₂ (Ok u) → Naming P T C T₂
 next_name P Q B C T T₁ T₂ u k h a l x = record {

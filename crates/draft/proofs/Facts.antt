@@ -30,8 +30,8 @@ sort_back is_cmd = refl
 sort_back is_program = refl
 sort_back is_none = refl
 
-pub same_sort : (a b : Sort) → same_sort a b ≡ true → a ≡ b
-same_sort a b h = sym (sort_back a) ∙ ap sort_of (eqb-true (sort_code a) (sort_code b) h) ∙ sort_back b
+pub same_sort_lem : (a b : Sort) → same_sort a b ≡ true → a ≡ b
+same_sort_lem a b h = sym (sort_back a) ∙ ap sort_of (eqb-true (sort_code a) (sort_code b) h) ∙ sort_back b
 
 pub sorts_apart : (a b : Sort) → same_sort a b ≡ false → a ≡ b → ⊥
 sorts_apart a b h e = eqb-false (sort_code a) (sort_code b) h (ap sort_code e)
@@ -46,7 +46,7 @@ stands t k [] h = tt
 stands t k (p ∷ ps) h =
     let both = and_parts _ _ h in
     let one = and_parts _ _ both.0 in
-    (ltb-true p.at k one.0, same_sort (sort (node (get_or t p.at blank))) p.wants one.1, stands t k ps both.1)
+    (ltb-true p.at k one.0, same_sort_lem (sort (node (get_or t p.at blank))) p.wants one.1, stands t k ps both.1)
 
 -- the entry k of entries that begin at number j
 known_at : (t : List Entry) → are_known t ≡ true → (n : ℕ) → n < length t → known (get_or t n blank) ≡ true
@@ -66,10 +66,10 @@ once_at t j (e ∷ es) h zero l = ap (λ (k : ℕ). once t k (sort (node e))) (a
 once_at t j (e ∷ es) h (suc n) l =
     ap (λ (k : ℕ). once t k (sort (node (get_or es n blank)))) (add-suc j n ∙ sym (suc-add j n)) ∙ once_at t (suc j) es (and_parts _ _ h).1 n (omega arith)
 
-no_decl : (t : List Entry) → no_decl t ≡ true → (n : ℕ) → n < length t → sort (node (get_or t n blank)) ≡ is_decl → ⊥
-no_decl [] h n l e = omega arith
-no_decl (d ∷ t) h zero l e = sorts_apart (sort (node d)) is_decl (not-true _ (and_parts _ _ h).0) e
-no_decl (d ∷ t) h (suc n) l e = no_decl t (and_parts _ _ h).1 n (omega arith) e
+no_decl_lem : (t : List Entry) → no_decl t ≡ true → (n : ℕ) → n < length t → sort (node (get_or t n blank)) ≡ is_decl → ⊥
+no_decl_lem [] h n l e = omega arith
+no_decl_lem (d ∷ t) h zero l e = sorts_apart (sort (node d)) is_decl (not-true _ (and_parts _ _ h).0) e
+no_decl_lem (d ∷ t) h (suc n) l e = no_decl_lem t (and_parts _ _ h).1 n (omega arith) e
 
 first_decls : (t : List Entry) → decls_first t ≡ true → (m n : ℕ) → m < n → n < length t → sort (node (get_or t n blank)) ≡ is_decl → sort (node (get_or t m blank)) ≡ is_decl
 first_decls [] h m n l k e = absurd (omega arith)
@@ -77,13 +77,13 @@ first_decls (d ∷ t) h m zero l k e = absurd (omega arith)
 first_decls (d ∷ t) h m (suc n) l k e = by (cases_Bool (same_sort (sort (node d)) is_decl)) m l (λ y j i. first_decls t y j n i (omega arith) e)
   where
     by : (same_sort (sort (node d)) is_decl ≡ true) ⊎ (same_sort (sort (node d)) is_decl ≡ false) → (m : ℕ) → m < suc n → (decls_first t ≡ true → (j : ℕ) → j < n → sort (node (get_or t j blank)) ≡ is_decl) → sort (node (get_or (d ∷ t) m blank)) ≡ is_decl
-    by (inl y) zero l r = same_sort (sort (node d)) is_decl y
+    by (inl y) zero l r = same_sort_lem (sort (node d)) is_decl y
     by (inl y) (suc m) l r = r (sym (cond-true _ (decls_first t) (no_decl t) y) ∙ h) m (omega arith)
-    by (inr y) m l r = absurd (no_decl t (sym (cond-false _ (decls_first t) (no_decl t) y) ∙ h) n (omega arith) e)
+    by (inr y) m l r = absurd (no_decl_lem t (sym (cond-false _ (decls_first t) (no_decl t) y) ∙ h) n (omega arith) e)
 
 program_at_end : (t : List Entry) → program_last t ≡ true → (n : ℕ) → suc n ≡ length t → sort (node (get_or t n blank)) ≡ is_program
 program_at_end [] h n e = absurd (omega arith)
-program_at_end (d ∷ []) h zero e = same_sort (sort (node d)) is_program h
+program_at_end (d ∷ []) h zero e = same_sort_lem (sort (node d)) is_program h
 program_at_end (d ∷ []) h (suc n) e = absurd (omega arith)
 program_at_end (d ∷ c ∷ t) h zero e = absurd (omega arith)
 program_at_end (d ∷ c ∷ t) h (suc n) e = program_at_end (c ∷ t) (and_parts _ _ h).1 n (omega arith)
@@ -138,9 +138,9 @@ program_node (Some (Output a)) e = absurd (sorts_apart is_cmd is_program refl e)
 program_node (Some (Program a)) e = (a, refl)
 program_node None e = absurd (sorts_apart is_none is_program refl e)
 
-known_node : (o : Option Node) → known_node o ≡ true → (m : Node) × (o ≡ Some m)
-known_node (Some m) h = (m, refl)
-known_node None h = absurd (false≢true h)
+known_node_lem : (o : Option Node) → known_node o ≡ true → (m : Node) × (o ≡ Some m)
+known_node_lem (Some m) h = (m, refl)
+known_node_lem None h = absurd (false≢true h)
 
 -- the questions one by one
 module _ (t : List Entry) (formed : is_formed t ≡ true) where
@@ -156,8 +156,8 @@ module _ (t : List Entry) (formed : is_formed t ≡ true) where
   unfolding is_formed
   is_arranged = (and_parts (are_placed t 0 t) _ (and_parts (are_known t) _ formed).1).1
 
-  program_last : program_last t ≡ true
-  program_last = (and_parts (program_last t) _ (and_parts (decls_first t) _ is_arranged).1).0
+  program_last_lem : program_last t ≡ true
+  program_last_lem = (and_parts (program_last t) _ (and_parts (decls_first t) _ is_arranged).1).0
 
   all_once : are_once t 0 t ≡ true
   all_once = (and_parts (program_last t) _ (and_parts (decls_first t) _ is_arranged).1).1
@@ -168,13 +168,13 @@ module _ (t : List Entry) (formed : is_formed t ≡ true) (n : ℕ) (lt : n < le
   knows = known_at t (all_known t formed) n lt
 
   pub some_node : (m : Node) × (node (get_or t n blank) ≡ Some m)
-  some_node = known_node (node (get_or t n blank)) (and_parts _ _ knows).0
+  some_node = known_node_lem (node (get_or t n blank)) (and_parts _ _ knows).0
 
   pub place_fact : (get_or t n blank).place ≤ 16384
   place_fact = leb-true (get_or t n blank).place 16384 (and_parts (known_node (node (get_or t n blank))) _ knows).1
 
-  few_names : (m : Node) → node (get_or t n blank) ≡ Some m → few_names m ≡ true
-  few_names m e = sym (ap known_node e) ∙ (and_parts _ _ knows).0
+  few_names_lem : (m : Node) → node (get_or t n blank) ≡ Some m → few_names m ≡ true
+  few_names_lem m e = sym (ap known_node e) ∙ (and_parts _ _ knows).0
 
   pub stand_fact : Stand t n (parts (node (get_or t n blank)))
   stand_fact = stands t n (parts (node (get_or t n blank))) (sym (ap (λ (k : ℕ). placed t k (parts (node (get_or t n blank)))) (zero-add n)) ∙ placed_at t 0 t (all_placed t formed) n lt)
@@ -183,10 +183,10 @@ module _ (t : List Entry) (formed : is_formed t ≡ true) (n : ℕ) (lt : n < le
   parts_fact m e = subst (λ o. Stand t n (parts o)) e stand_fact
 
   pub decl_fact : {x : ℕ} {y : SimpleType} → node (get_or t n blank) ≡ Some (Decl x y) → x < 64
-  decl_fact {x} {y} e = ltb-true x 64 (few_names (Decl x y) e)
+  decl_fact {x} {y} e = ltb-true x 64 (few_names_lem (Decl x y) e)
 
   pub var_fact : {x : ℕ} → node (get_or t n blank) ≡ Some (Var x) → x < 64
-  var_fact {x} e = ltb-true x 64 (few_names (Var x) e)
+  var_fact {x} e = ltb-true x 64 (few_names_lem (Var x) e)
 
   pub uny_fact : {o : Unary} {a : ℕ} → node (get_or t n blank) ≡ Some (Uny o a) → (a < n) × (sort (node (get_or t a blank)) ≡ is_expr)
   uny_fact {o} {a} e =
@@ -201,7 +201,7 @@ module _ (t : List Entry) (formed : is_formed t ≡ true) (n : ℕ) (lt : n < le
   pub assign_fact : {x a : ℕ} → node (get_or t n blank) ≡ Some (Assign x a) → (x < 64) × (a < n) × (sort (node (get_or t a blank)) ≡ is_expr)
   assign_fact {x} {a} e =
       let s = parts_fact (Assign x a) e in
-      (ltb-true x 64 (few_names (Assign x a) e), s.0, s.1)
+      (ltb-true x 64 (few_names_lem (Assign x a) e), s.0, s.1)
 
   pub seq_fact : {a b : ℕ} → node (get_or t n blank) ≡ Some (Seq a b) → (a < n) × (sort (node (get_or t a blank)) ≡ is_cmd) × (b < n) × (sort (node (get_or t b blank)) ≡ is_cmd)
   seq_fact {a} {b} e =
@@ -219,7 +219,7 @@ module _ (t : List Entry) (formed : is_formed t ≡ true) (n : ℕ) (lt : n < le
       (s.0, s.1, s.2.0, s.2.1)
 
   pub input_fact : {x : ℕ} → node (get_or t n blank) ≡ Some (Input x) → x < 64
-  input_fact {x} e = ltb-true x 64 (few_names (Input x) e)
+  input_fact {x} e = ltb-true x 64 (few_names_lem (Input x) e)
 
   pub output_fact : {a : ℕ} → node (get_or t n blank) ≡ Some (Output a) → (a < n) × (sort (node (get_or t a blank)) ≡ is_expr)
   output_fact {a} e =
@@ -233,7 +233,7 @@ module _ (t : List Entry) (formed : is_formed t ≡ true) (n : ℕ) (lt : n < le
       (s.0, s.1, by (cases_Bool (ltb (suc n) (length t))))
     where
       by : (ltb (suc n) (length t) ≡ true) ⊎ (ltb (suc n) (length t) ≡ false) → suc n ≡ length t
-      by (inl h) = absurd (program_only_end t (program_last t formed) n (ltb-true _ _ h) (ap sort e))
+      by (inl h) = absurd (program_only_end t (program_last_lem t formed) n (ltb-true _ _ h) (ap sort e))
       by (inr h) = omega (arith, ltb-false (suc n) (length t) h)
 
   -- an expression or a command is a part just once
@@ -294,13 +294,13 @@ module _ (t : List Entry) (formed : is_formed t ≡ true) (n : ℕ) (lt : n < le
 -- the last entry of a formed table
 module _ (t : List Entry) (formed : is_formed t ≡ true) where
   pub not_empty : 0 < length t
-  not_empty = some_entry t (program_last t formed)
+  not_empty = some_entry t (program_last_lem t formed)
 
   pub end_below : length t - 1 < length t
   end_below = omega (arith, not_empty)
 
   pub end_program : (a : ℕ) × (node (get_or t (length t - 1) blank) ≡ Some (Program a))
-  end_program = program_node (node (get_or t (length t - 1) blank)) (program_at_end t (program_last t formed) (length t - 1) (omega (arith, not_empty)))
+  end_program = program_node (node (get_or t (length t - 1) blank)) (program_at_end t (program_last_lem t formed) (length t - 1) (omega (arith, not_empty)))
 
   pub program_at : {a : ℕ} → node (get_or t (length t - 1) blank) ≡ Some (Program a) → (program_of t).body ≡ cmd_at t a
   unfolding program_of

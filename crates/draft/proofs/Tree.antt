@@ -37,8 +37,8 @@ label_of n f (Some (Output a)) = refl
 label_of n f (Some (Program a)) = refl
 label_of n f None = refl
 
-pub expr_label : (t : List Entry) (n : ℕ) → expr_label (expr_at t n) ≡ n
-expr_label t n = ap expr_label (expr_step t n) ∙ label_of n (expr_at t) (node (get_or t n blank))
+pub expr_label_lem : (t : List Entry) (n : ℕ) → expr_label (expr_at t n) ≡ n
+expr_label_lem t n = ap expr_label (expr_step t n) ∙ label_of n (expr_at t) (node (get_or t n blank))
 
 cmd_label_of : (n : ℕ) (v : ℕ → Expr ℕ) (f : ℕ → Cmd ℕ) (o : Option Node) → cmd_label (cmd_of n v f o) ≡ n
 cmd_label_of n v f (Some Skip) = refl
@@ -56,8 +56,8 @@ cmd_label_of n v f (Some (Bin a o b)) = refl
 cmd_label_of n v f (Some (Program a)) = refl
 cmd_label_of n v f None = refl
 
-pub cmd_label : (t : List Entry) (n : ℕ) → cmd_label (cmd_at t n) ≡ n
-cmd_label t n = ap cmd_label (cmd_step t n) ∙ cmd_label_of n (expr_at t) (cmd_at t) (node (get_or t n blank))
+pub cmd_label_lem : (t : List Entry) (n : ℕ) → cmd_label (cmd_at t n) ≡ n
+cmd_label_lem t n = ap cmd_label (cmd_step t n) ∙ cmd_label_of n (expr_at t) (cmd_at t) (node (get_or t n blank))
 
 -- the kinds of an expression
 pub record ExprCases (o : Option Node) (P : Type 0) : Type 0 where
@@ -253,13 +253,13 @@ module _ (t : List Entry) (formed : is_formed t ≡ true) where
         a_uny = λ o a q.
             let k = uny_fact t formed n lt q in
             subst (ListsExpr t) (sym (expr_at_uny t formed n lt q)) (
-              q ∙ sym (ap (λ (i : ℕ). Some (Uny o i)) (expr_label t a)),
+              q ∙ sym (ap (λ (i : ℕ). Some (Uny o i)) (expr_label_lem t a)),
               lists_at_by f a (omega (arith, k.0)) k.1,
             );
         a_bin = λ a o b q.
             let k = bin_fact t formed n lt q in
             subst (ListsExpr t) (sym (expr_at_bin t formed n lt q)) (
-              q ∙ sym (λ i. Some (Bin (expr_label t a i) o (expr_label t b i))),
+              q ∙ sym (λ i. Some (Bin (expr_label_lem t a i) o (expr_label_lem t b i))),
               lists_at_by f a (omega (arith, k.0)) k.1,
               lists_at_by f b (omega (arith, k.2)) k.3,
             );
@@ -277,20 +277,20 @@ module _ (t : List Entry) (formed : is_formed t ≡ true) where
         a_assign = λ x a q.
             let k = assign_fact t formed n lt q in
             subst (ListsCmd t) (sym (cmd_at_assign t formed n lt q)) (
-              q ∙ sym (ap (λ (i : ℕ). Some (Assign x i)) (expr_label t a)),
+              q ∙ sym (ap (λ (i : ℕ). Some (Assign x i)) (expr_label_lem t a)),
               lists_at a k.2,
             );
         a_seq = λ a b q.
             let k = seq_fact t formed n lt q in
             subst (ListsCmd t) (sym (cmd_at_seq t formed n lt q)) (
-              q ∙ sym (λ i. Some (Seq (cmd_label t a i) (cmd_label t b i))),
+              q ∙ sym (λ i. Some (Seq (cmd_label_lem t a i) (cmd_label_lem t b i))),
               lists_cmd_by f a (omega (arith, k.0)) k.1,
               lists_cmd_by f b (omega (arith, k.2)) k.3,
             );
         a_choice = λ a b c q.
             let k = choice_fact t formed n lt q in
             subst (ListsCmd t) (sym (cmd_at_choice t formed n lt q)) (
-              q ∙ sym (λ i. Some (Choice (expr_label t a i) (cmd_label t b i) (cmd_label t c i))),
+              q ∙ sym (λ i. Some (Choice (expr_label_lem t a i) (cmd_label_lem t b i) (cmd_label_lem t c i))),
               lists_at a k.1,
               lists_cmd_by f b (omega (arith, k.2)) k.3,
               lists_cmd_by f c (omega (arith, k.4)) k.5,
@@ -298,7 +298,7 @@ module _ (t : List Entry) (formed : is_formed t ≡ true) where
         a_loop = λ a b q.
             let k = loop_fact t formed n lt q in
             subst (ListsCmd t) (sym (cmd_at_loop t formed n lt q)) (
-              q ∙ sym (λ i. Some (Loop (expr_label t a i) (cmd_label t b i))),
+              q ∙ sym (λ i. Some (Loop (expr_label_lem t a i) (cmd_label_lem t b i))),
               lists_at a k.1,
               lists_cmd_by f b (omega (arith, k.2)) k.3,
             );
@@ -306,7 +306,7 @@ module _ (t : List Entry) (formed : is_formed t ≡ true) where
         an_output = λ a q.
             let k = output_fact t formed n lt q in
             subst (ListsCmd t) (sym (cmd_at_output t formed n lt q)) (
-              q ∙ sym (ap (λ (i : ℕ). Some (Output i)) (expr_label t a)),
+              q ∙ sym (ap (λ (i : ℕ). Some (Output i)) (expr_label_lem t a)),
               lists_at a k.1,
             );
       })
@@ -460,11 +460,11 @@ module _ (t : List Entry) (formed : is_formed t ≡ true) where
       let p = end_program t formed in
       record {
         last = omega (arith, not_empty t formed);
-        program = p.1 ∙ sym (ap (λ (i : ℕ). Some (Program i)) (ap cmd_label (program_at t formed p.1) ∙ cmd_label t p.0));
+        program = p.1 ∙ sym (ap (λ (i : ℕ). Some (Program i)) (ap cmd_label (program_at t formed p.1) ∙ cmd_label_lem t p.0));
         decls = refl;
         body = body_lists;
-        exprs = λ n lt e. (expr_at t n, expr_label t n, expr_reached n lt e);
-        cmds = λ n lt e. (cmd_at t n, cmd_label t n, cmd_reached n lt e);
+        exprs = λ n lt e. (expr_at t n, expr_label_lem t n, expr_reached n lt e);
+        cmds = λ n lt e. (cmd_at t n, cmd_label_lem t n, cmd_reached n lt e);
       }
 
   only_program : (q : tree.Program ℕ) → Lists t q → q ≡ program_of t

@@ -10,7 +10,7 @@ use Rattle.grammar.specs.Building.{Act, a_const, a_skip, a_assign}
 use Rattle.grammar.specs.Automaton.{Sym, expr, rels, simple, simples, term, terms, factor, cmd, elses, cmds, is, is_open, is_assigned, is_input, text, title, vars, decls, a_name, names, type, does, leave, run}
 use Rattle.grammar.specs.Limits.{placed_from, AllSimple}
 use Rattle.grammar.proofs.Watches.{plain}
-use Rattle.grammar.proofs.Follow.{run_does, run_leave, no_mul, no_add, no_rel, no_else}
+use Rattle.grammar.proofs.Follow.{run_does, run_leave, no_mul, no_add, no_rel, no_else_lem}
 use Rattle.grammar.proofs.Stack.{Closing}
 
 -- tokens for what the stack expects before the end of the text, with the name n
@@ -147,7 +147,7 @@ module _ {S : Type 0} (act : Act → S → S) (n : ℕ) (f : ℕ → ℕ) where
   finishes k (terms ∷ K) s h = let r = finishes k K s h in (r.0, no_mul act plain K s (rest n f k K) (quiet n f k K).0 ∙ r.1)
   finishes k (factor ∷ K) s h = finishes (suc k) K _ h
   finishes k (cmd ∷ K) s h = let c = act (a_skip (f (suc k))) s in let r = finishes (suc (suc k)) K c h in (r.0, run_leave act plain K c (rest n f (suc (suc k)) K) ∙ r.1)
-  finishes k (elses ∷ K) s h = let c = act (a_skip (next_place (rest n f k K))) s in let r = finishes k K c h in (r.0, no_else act plain K s (rest n f k K) (quiet n f k K).3 ∙ r.1)
+  finishes k (elses ∷ K) s h = let c = act (a_skip (next_place (rest n f k K))) s in let r = finishes k K c h in (r.0, no_else_lem act plain K s (rest n f k K) (quiet n f k K).3 ∙ r.1)
   finishes k (cmds ∷ K) s h = finishes (suc k) K _ h
   finishes k (is_open ∷ K) s h = finishes (suc k) K _ h
   finishes k (is_assigned m ∷ K) s h =

@@ -123,9 +123,9 @@ module _ {S A : Type 0} (act : Act → S → S) (w : Watch S A) where
   no_rel K s [] h = refl
   no_rel K s (at t p ∷ ts) h = rw h
 
-  pub no_else : (K : List Sym) (s : S) (o : List Item) → next_else o ≡ false → run act w (auto.elses ∷ K) s o ≡ run act w K (act (a_skip (next_place o)) s) o
-  no_else K s [] h = refl
-  no_else K s (at t p ∷ ts) h = rw h
+  pub no_else_lem : (K : List Sym) (s : S) (o : List Item) → next_else o ≡ false → run act w (auto.elses ∷ K) s o ≡ run act w K (act (a_skip (next_place o)) s) o
+  no_else_lem K s [] h = refl
+  no_else_lem K s (at t p ∷ ts) h = rw h
 
   pub no_cmd : (K : List Sym) (s : S) (o : List Item) → next_cmd o ≡ false → run act w (auto.cmd ∷ K) s o ≡ run act w K (act (a_skip (next_place o)) s) o
   no_cmd K s [] h = refl
@@ -193,7 +193,7 @@ module _ {S A : Type 0} (act : Act → S → S) (w : Watch S A) where
   follow_cmd (is_write {p} {q} {z = v} {o} {a} d) f K s r z h =
       ap (λ x. R (at (start Write) p) (marks K) (R (at (pre Open) q) (marks K) x)) (follow_expr d (refl, refl, refl) (is Close ∷ does (a_output p) ∷ K) s (deep (at (mark Close) v) (marks K) ∷ r) z
       (ap (R (at (mark Close) v) (marks K)) (run_does (a_output p) K (build_e act a s) o ∙ h)))
-  follow_cmd (no_else {o} n) f K s r z h = no_else K s o n ∙ h
+  follow_cmd (no_else {o} n) f K s r z h = no_else_lem K s o n ∙ h
   follow_cmd (an_else {q} d) f K s r z h = ap (R (at else' q) (marks K)) (follow_cmd d f K s r z h)
   follow_cmd (is_end {q}) f K s r z h = ap (R (at (mark End) q) (marks K)) h
   follow_cmd (a_semi {p} {m} {a} {b} d e) f K s r z h =

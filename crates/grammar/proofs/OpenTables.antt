@@ -161,12 +161,12 @@ module _ (b : ℕ) (es : List Entry) (qs ps : List Part) (n : Node) (p : ℕ) (s
       }
 
 -- the whole table: a sound one, and the program entry after it
-same_sort : (s : Sort) → same_sort s s ≡ true
-same_sort is_decl = refl
-same_sort is_expr = refl
-same_sort is_cmd = refl
-same_sort is_program = refl
-same_sort is_none = refl
+same_sort_lem : (s : Sort) → same_sort s s ≡ true
+same_sort_lem is_decl = refl
+same_sort_lem is_expr = refl
+same_sort_lem is_cmd = refl
+same_sort_lem is_program = refl
+same_sort_lem is_none = refl
 
 inner_no_decl : (s : Sort) → inner s ≡ true → same_sort s is_decl ≡ false
 inner_no_decl is_decl h = sym h
@@ -185,7 +185,7 @@ inner_no_program is_none h = refl
 placed_standing : (t : List Entry) (k : ℕ) (ps : List Part) → Stand t k ps → placed t k ps ≡ true
 placed_standing t k [] s = refl
 placed_standing t k (p ∷ ps) s =
-    and_from _ _ (and_from _ _ (lt-ltb p.at k s.0) (ap (λ (q : Sort). same_sort q p.wants) s.1 ∙ same_sort p.wants)) (placed_standing t k ps s.2)
+    and_from _ _ (and_from _ _ (lt-ltb p.at k s.0) (ap (λ (q : Sort). same_sort q p.wants) s.1 ∙ same_sort_lem p.wants)) (placed_standing t k ps s.2)
 
 once_used : (t : List Entry) (k : ℕ) (s : Sort) → all_uses k t ≡ 1 → once t k s ≡ true
 once_used t k is_decl h = refl
@@ -204,21 +204,21 @@ module _ (b : ℕ) (t : List Entry) (x : Entry) where
   all_placed k (e ∷ es) g h =
       and_from _ _ (placed_standing t k (parts (node e)) g.0.stands) (all_placed (suc k) es g.1 (subst (λ m. Stand t m (parts (node x))) (omega arith) h))
 
-  no_decl : (k : ℕ) (es : List Entry) → AllGood b t k es → b ≤ k → sort (node x) ≡ is_program → no_decl (es ++ (x ∷ [])) ≡ true
-  no_decl k [] g l h = and_from _ _ (ap (λ (s : Sort). not (same_sort s is_decl)) h) refl
-  no_decl k (e ∷ es) g l h =
-      and_from _ _ (ap not (inner_no_decl (sort (node e)) (g.0.late l))) (no_decl (suc k) es g.1 (omega arith) h)
+  no_decl_lem : (k : ℕ) (es : List Entry) → AllGood b t k es → b ≤ k → sort (node x) ≡ is_program → no_decl (es ++ (x ∷ [])) ≡ true
+  no_decl_lem k [] g l h = and_from _ _ (ap (λ (s : Sort). not (same_sort s is_decl)) h) refl
+  no_decl_lem k (e ∷ es) g l h =
+      and_from _ _ (ap not (inner_no_decl (sort (node e)) (g.0.late l))) (no_decl_lem (suc k) es g.1 (omega arith) h)
 
-  decls_first : (k : ℕ) (es : List Entry) → AllGood b t k es → sort (node x) ≡ is_program → decls_first (es ++ (x ∷ [])) ≡ true
-  decls_first k [] g h = ap (λ (s : Sort). cond (same_sort s is_decl) true true) h
-  decls_first k (e ∷ es) g h = go (cases_lt k b) (decls_first (suc k) es g.1 h)
+  decls_first_lem : (k : ℕ) (es : List Entry) → AllGood b t k es → sort (node x) ≡ is_program → decls_first (es ++ (x ∷ [])) ≡ true
+  decls_first_lem k [] g h = ap (λ (s : Sort). cond (same_sort s is_decl) true true) h
+  decls_first_lem k (e ∷ es) g h = go (cases_lt k b) (decls_first_lem (suc k) es g.1 h)
     where
       rest : List Entry
       rest = es ++ (x ∷ [])
 
       go : (k < b) ⊎ (b ≤ k) → decls_first rest ≡ true → decls_first (e ∷ rest) ≡ true
       go (inl l) r = ap (λ (s : Sort). cond (same_sort s is_decl) (decls_first rest) (no_decl rest)) (g.0.early l) ∙ r
-      go (inr l) r = ap (λ (c : Bool). cond c (decls_first rest) (no_decl rest)) (inner_no_decl (sort (node e)) (g.0.late l)) ∙ no_decl (suc k) es g.1 (omega arith) h
+      go (inr l) r = ap (λ (c : Bool). cond c (decls_first rest) (no_decl rest)) (inner_no_decl (sort (node e)) (g.0.late l)) ∙ no_decl_lem (suc k) es g.1 (omega arith) h
 
   no_program : (k : ℕ) (e : Entry) → Good b t k e → same_sort (sort (node e)) is_program ≡ false
   no_program k e g = go (cases_lt k b)
@@ -227,10 +227,10 @@ module _ (b : ℕ) (t : List Entry) (x : Entry) where
       go (inl l) = ap (λ (s : Sort). same_sort s is_program) (g.early l)
       go (inr l) = inner_no_program (sort (node e)) (g.late l)
 
-  program_last : (k : ℕ) (es : List Entry) → AllGood b t k es → sort (node x) ≡ is_program → program_last (es ++ (x ∷ [])) ≡ true
-  program_last k [] g h = ap (λ (s : Sort). same_sort s is_program) h
-  program_last k (e ∷ []) g h = and_from _ _ (ap not (no_program k e g.0)) (program_last (suc k) [] tt h)
-  program_last k (e ∷ d ∷ es) g h = and_from _ _ (ap not (no_program k e g.0)) (program_last (suc k) (d ∷ es) g.1 h)
+  program_last_lem : (k : ℕ) (es : List Entry) → AllGood b t k es → sort (node x) ≡ is_program → program_last (es ++ (x ∷ [])) ≡ true
+  program_last_lem k [] g h = ap (λ (s : Sort). same_sort s is_program) h
+  program_last_lem k (e ∷ []) g h = and_from _ _ (ap not (no_program k e g.0)) (program_last_lem (suc k) [] tt h)
+  program_last_lem k (e ∷ d ∷ es) g h = and_from _ _ (ap not (no_program k e g.0)) (program_last_lem (suc k) (d ∷ es) g.1 h)
 
   all_once : (m k : ℕ) (es : List Entry) → ((i : ℕ) → b ≤ i → i < m → all_uses i t ≡ 1) → AllGood b t k es → k + length es ≤ m → sort (node x) ≡ is_program → are_once t k (es ++ (x ∷ [])) ≡ true
   all_once m k [] u g l h = and_from _ _ (ap (λ (s : Sort). once t k s) h) refl
@@ -250,5 +250,5 @@ sound_opens b es r p s l =
     let u : (i : ℕ) → b ≤ i → i < length es → all_uses i t ≡ 1 = λ i h k. uses_push i es x ∙ s.used i ∙ within_in b (length es) i h k in
     let a : are_known t ≡ true = all_known b t x 0 es g (known_entry (Program r) p refl l) in
     let c : are_placed t 0 t ≡ true = all_placed b t x 0 es g st in
-    let d : arranged t ≡ true = and_from _ _ (decls_first b t x 0 es g refl) (and_from _ _ (program_last b t x 0 es g refl) (all_once b t x (length es) 0 es u g (omega arith) refl)) in
+    let d : arranged t ≡ true = and_from _ _ (decls_first_lem b t x 0 es g refl) (and_from _ _ (program_last_lem b t x 0 es g refl) (all_once b t x (length es) 0 es u g (omega arith) refl)) in
     cond-true (are_known t) _ _ a ∙ cond-true (are_placed t 0 t) _ _ c ∙ cond-true (arranged t) _ _ d

@@ -157,8 +157,8 @@ entries_end t h = ap (λ (V : List ℕ). (one (bodied t).entries V t.label (λ a
 pub entries_some : (t : tree.Program ℕ) → 1 ≤ length (entries_of t)
 entries_some t = omega (arith, entries_count t)
 
-pub entries_open : (t : tree.Program ℕ) → Bounded t → entries_open (entries_of t) ≡ opened
-entries_open t h =
+pub entries_open_lem : (t : tree.Program ℕ) → Bounded t → entries_open (entries_of t) ≡ opened
+entries_open_lem t h =
     let s = bodied_sound t h in
     ap entries_open (entries_end t h) ∙ sound_opens (length (decl_entries t.decls)) (bodied t).entries s.0 t.label s.1.sound h.0
 
@@ -179,4 +179,4 @@ listed_opens t h cap l k =
     let len : length room ≡ cap = length-replicate cap blank in
     let c : counted (length (laid es room)) (length es) ≡ true =
     and_from _ _ (le-leb 1 (length es) (entries_some t)) (and_from _ _ (le-leb (length es) 1024 l) (le-leb (length es) (length (laid es room)) (omega (arith, length_laid es room, len)))) in
-    cond-true (counted (length (laid es room)) (length es)) _ _ c ∙ ap entries_open (take_laid es room (omega (arith, len))) ∙ entries_open t h
+    cond-true (counted (length (laid es room)) (length es)) _ _ c ∙ ap entries_open (take_laid es room (omega (arith, len))) ∙ entries_open_lem t h

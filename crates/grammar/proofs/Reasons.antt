@@ -119,10 +119,10 @@ module _ {S : Type 0} (act : Act → S → S) where
   Halted e n p K s ts = (front : List Item) × (rest : List Item) × (J : List Sym) × (r : S) × (ts ≡ front ++ rest) × Passed act K s front J r × Closing J × Halt act e J r rest n p
 
 module _ {S : Type 0} (act : Act → S → S) (e : Ending) (n p : ℕ) where
-  at_end : (f : Ending) (v : Seen S) → ending f v ≡ refused n p → f ≡ bad n p
-  at_end over no h = absurd (let z : ◌≡◌ {A = ℕ} 0 1 = cc in omega arith)
-  at_end over (yes s) h = absurd (let z : ◌≡◌ {A = ℕ} 0 1 = cc in omega arith)
-  at_end (bad m q) v h = let a : m ≡ n = cc in let b : q ≡ p = cc in ap (λ x. bad x q) a ∙ ap (bad n) b
+  at_end_lem : (f : Ending) (v : Seen S) → ending f v ≡ refused n p → f ≡ bad n p
+  at_end_lem over no h = absurd (let z : ◌≡◌ {A = ℕ} 0 1 = cc in omega arith)
+  at_end_lem over (yes s) h = absurd (let z : ◌≡◌ {A = ℕ} 0 1 = cc in omega arith)
+  at_end_lem (bad m q) v h = let a : m ≡ n = cc in let b : q ≡ p = cc in ap (λ x. bad x q) a ∙ ap (bad n) b
 
   -- a halt with the number and place of the refusal
   numbered : {J : List Sym} {r : S} {ts : List Item} {m q : ℕ} → Halt act e J r ts m q → ◌≡◌ {A = Outcome S} (refused m q) (refused n p) → Halt act e J r ts n p
@@ -159,7 +159,7 @@ module _ {S : Type 0} (act : Act → S → S) (e : Ending) (n p : ℕ) where
     moves b x h (go K' s') st l d k = let a = run act (limits e) K' s' ts in asks K' s' st l (omega arith) x (h K' s') (asking (at t q) (marks K') a) (asked t (marks K') q a) k
 
   halts : (ts : List Item) (K : List Sym) (s : S) → Closing K → marks K ≤ 32 → Ends ts e → run act (limits e) K s ts ≡ refused n p → Halted act e n p K s ts
-  halts [] K s c b x h = ([], [], K, s, refl, none, c, at_end (at_end e (settle act K s) h))
+  halts [] K s c b x h = ([], [], K, s, refl, none, c, at_end (at_end_lem e (settle act K s) h))
   halts (at t q ∷ ts) K s c b x h = moves t q ts K s c b x.0 (λ K' s' c' b'. halts ts K' s' c' b' x.1) (step act K s t q) refl (closing act q K s t c) (rises act q K s t) h
 
 pub reasoned : {S : Type 0} (act : Act → S → S) → Reasoned S act

@@ -63,16 +63,16 @@ not_mark m else' a b h = refl
 not_mark m unused a b h = refl
 not_mark m (ty y) a b h = refl
 
-pub is_mark : (m : Symbol) (t : Tok) (a b : Move Listing) → is_mark m t ≡ true → at_mark list m t a b ≡ a
-is_mark m (mark x) a b h = ap (λ c. cond c a b) h
-is_mark m (name n) a b h = clash (sym h)
-is_mark m (lit l) a b h = clash (sym h)
-is_mark m (op o) a b h = clash (sym h)
-is_mark m (pre x) a b h = clash (sym h)
-is_mark m (start x) a b h = clash (sym h)
-is_mark m else' a b h = clash (sym h)
-is_mark m unused a b h = clash (sym h)
-is_mark m (ty y) a b h = clash (sym h)
+pub is_mark_lem : (m : Symbol) (t : Tok) (a b : Move Listing) → is_mark m t ≡ true → at_mark list m t a b ≡ a
+is_mark_lem m (mark x) a b h = ap (λ c. cond c a b) h
+is_mark_lem m (name n) a b h = clash (sym h)
+is_mark_lem m (lit l) a b h = clash (sym h)
+is_mark_lem m (op o) a b h = clash (sym h)
+is_mark_lem m (pre x) a b h = clash (sym h)
+is_mark_lem m (start x) a b h = clash (sym h)
+is_mark_lem m else' a b h = clash (sym h)
+is_mark_lem m unused a b h = clash (sym h)
+is_mark_lem m (ty y) a b h = clash (sym h)
 
 pub mark_few : (m : Symbol) (t : Tok) → is_mark m t ≡ true → few t ≡ true
 mark_few m (mark x) h = refl
@@ -108,16 +108,16 @@ misses_mark {K} m p x e k = misses p K x (λ h s. not_mark m (next p) (go K s) s
 pub reads_as : (p q : Parser) (t : Tok) → meant p.token ≡ other t → Read p (next p) q → Read p t q
 reads_as p q t e r = subst (λ x. Read p x q) (ap (tok (known_of p.names)) e) r
 
-pub is_else : (t : Tok) → is_else t ≡ true → t ≡ else'
-is_else else' h = refl
-is_else (name x) h = absurd (let z : ◌≡◌ {A = ℕ} 0 1 = cc in omega arith)
-is_else (lit x) h = absurd (let z : ◌≡◌ {A = ℕ} 0 1 = cc in omega arith)
-is_else (op x) h = absurd (let z : ◌≡◌ {A = ℕ} 0 1 = cc in omega arith)
-is_else (pre x) h = absurd (let z : ◌≡◌ {A = ℕ} 0 1 = cc in omega arith)
-is_else (start x) h = absurd (let z : ◌≡◌ {A = ℕ} 0 1 = cc in omega arith)
-is_else unused h = absurd (let z : ◌≡◌ {A = ℕ} 0 1 = cc in omega arith)
-is_else (ty x) h = absurd (let z : ◌≡◌ {A = ℕ} 0 1 = cc in omega arith)
-is_else (mark x) h = absurd (let z : ◌≡◌ {A = ℕ} 0 1 = cc in omega arith)
+pub is_else_lem : (t : Tok) → is_else t ≡ true → t ≡ else'
+is_else_lem else' h = refl
+is_else_lem (name x) h = absurd (let z : ◌≡◌ {A = ℕ} 0 1 = cc in omega arith)
+is_else_lem (lit x) h = absurd (let z : ◌≡◌ {A = ℕ} 0 1 = cc in omega arith)
+is_else_lem (op x) h = absurd (let z : ◌≡◌ {A = ℕ} 0 1 = cc in omega arith)
+is_else_lem (pre x) h = absurd (let z : ◌≡◌ {A = ℕ} 0 1 = cc in omega arith)
+is_else_lem (start x) h = absurd (let z : ◌≡◌ {A = ℕ} 0 1 = cc in omega arith)
+is_else_lem unused h = absurd (let z : ◌≡◌ {A = ℕ} 0 1 = cc in omega arith)
+is_else_lem (ty x) h = absurd (let z : ◌≡◌ {A = ℕ} 0 1 = cc in omega arith)
+is_else_lem (mark x) h = absurd (let z : ◌≡◌ {A = ℕ} 0 1 = cc in omega arith)
 
 pub plain_else : (k : Known) (t : Token) → is_else (tok k (meant t)) ≡ true → plain (meant t) ≡ true
 plain_else k Else h = refl

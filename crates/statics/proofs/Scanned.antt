@@ -11,7 +11,7 @@ use Rattle.tosca.specs.Decode.{expr_at, cmd_at, declared, decls_from, program_of
 use Rattle.tosca.specs.Opens.{Sort, is_decl, is_expr, is_cmd, is_program, is_none, sort}
 use Rattle.draft.specs.Forming.{is_formed}
 use Rattle.draft.specs.Subtrees.{expr_label, cmd_label, ExprIn, CmdIn}
-use Rattle.draft.proofs.Tree.{expr_label, cmd_label, expr_reached, cmd_reached, expr_listed, cmd_listed}
+use Rattle.draft.proofs.Tree.{expr_label_lem, cmd_label_lem, expr_reached, cmd_reached, expr_listed, cmd_listed}
 use Rattle.statics.specs.Choosing.{Among, lowest, Least, chosen}
 use Rattle.statics.specs.Checking.{is_name, again}
 use Rattle.statics.specs.Scanning.{first_of, chooses_as, chooses}
@@ -59,8 +59,8 @@ module _ (f : Expr ℕ → Bool) (g : Cmd ℕ → Bool) (t : List Entry) (formed
   scanned_chosen k lt c = by (sort (node (get_or t k blank))) refl c
     where
       by : (s : Sort) → sort (node (get_or t k blank)) ≡ s → chooses_as f g t k s ≡ true → Among k (chosen f g (program_of t).body)
-      by is_expr e c = subst (λ (j : ℕ). Among j (chosen f g (program_of t).body)) (expr_label t k) (chosen_expr f g (program_of t).body (expr_at t k) (expr_reached t formed k lt e) c)
-      by is_cmd e c = subst (λ (j : ℕ). Among j (chosen f g (program_of t).body)) (cmd_label t k) (chosen_cmd f g (program_of t).body (cmd_at t k) (cmd_reached t formed k lt e) c)
+      by is_expr e c = subst (λ (j : ℕ). Among j (chosen f g (program_of t).body)) (expr_label_lem t k) (chosen_expr f g (program_of t).body (expr_at t k) (expr_reached t formed k lt e) c)
+      by is_cmd e c = subst (λ (j : ℕ). Among j (chosen f g (program_of t).body)) (cmd_label_lem t k) (chosen_cmd f g (program_of t).body (cmd_at t k) (cmd_reached t formed k lt e) c)
       by is_decl e c = absurd (false≢true c)
       by is_program e c = absurd (false≢true c)
       by is_none e c = absurd (false≢true c)

@@ -345,6 +345,6 @@ pub verdict_means : VerdictMeans
 verdict_means =
     record {
       typed = λ ds e y. record { to = typed_has ds e y; from = has_typed ds e y };
-      atFault = λ ds e. record { to = fault_misapplied ds e; from = misapplied_fault ds e };
+      at_fault = λ ds e. record { to = fault_misapplied ds e; from = misapplied_fault ds e };
       command = λ ds c. record { to = ill_mistyped ds c; from = mistyped_ill ds c };
     }

@@ -9,7 +9,7 @@ use Rattle.parser.specs.Feeds.{known_of, next}
 use Rattle.parser.specs.Advancing.{Read}
 use Rattle.parser.proofs.CommandSteps as token
 use Rattle.parser.proofs.CommandSteps.{reads_as}
-use Rattle.commands.proofs.CommandRing.{blocks, less_after, less_slack, less_looped, less_chosen, less_skipped, less_ended, choosing, looping, test_wrong, test_alone, body_wrong, looped, else_wrong, chosen, skipped, no_else, with_else, one_more, next_wrong, next_broken, ended, unended}
+use Rattle.commands.proofs.CommandRing.{blocks, less_after, less_slack, less_looped, less_chosen, less_skipped, less_ended, choosing, looping, test_wrong, test_alone, body_wrong, looped, else_wrong, chosen, skipped, no_else_lem, with_else, one_more, next_wrong, next_broken, ended, unended}
 use Rattle.commands.proofs.commands.+alternative_block_choice_cmd_cmds_repetition.Goals as goal
 
 pub alternative-advance-requires : goal.alternative-advance-requires
@@ -17,7 +17,7 @@ alternative-advance-requires t c = (c.requires.0, token.plain_else (known_of c.a
 
 pub alternative-returns : goal.alternative-returns
 alternative-returns t c =
-    let a = subst (λ v. Read c.args.parser.now v c.advance.new.self) (token.is_else (next c.args.parser.now) (sym c.if-not-is_else.ensures)) c.in-ok-advance.ensures in
+    let a = subst (λ v. Read c.args.parser.now v c.advance.new.self) (token.is_else_lem (next c.args.parser.now) (sym c.if-not-is_else.ensures)) c.in-ok-advance.ensures in
     record {
       less = less_after 1 1 c.args.parser.now c.advance.new.self c.cmd.new.parser else' c.cmd.result (omega arith) a c.cmd.ensures.less;
       is = with_else c.args.depth c.args.parser.now c.advance.new.self c.cmd.new.parser c.args.table.now c.cmd.new.table c.cmd.result c.requires.1.0 a c.cmd.ensures.is;
@@ -26,7 +26,7 @@ alternative-returns t c =
 pub alternative-returns-then-not-is_else : goal.alternative-returns-then-not-is_else
 alternative-returns-then-not-is_else t c = record {
   less = less_skipped c.args.parser.now c.skip.new.parser c.args.table.now c.skip.new.table Skip c.args.parser.now.place c.skip.result c.requires.0 c.requires.1.1 c.skip.ensures;
-  is = no_else c.args.depth c.args.parser.now c.skip.new.parser c.args.table.now c.skip.new.table c.skip.result (sym c.if-not-is_else.ensures) c.skip.ensures;
+  is = no_else_lem c.args.depth c.args.parser.now c.skip.new.parser c.args.table.now c.skip.new.table c.skip.result (sym c.if-not-is_else.ensures) c.skip.ensures;
 }
 
 pub block-returns : goal.block-returns

@@ -8,8 +8,8 @@ decoded-requires c =
     let m = mountable c.args.table.now c.args.count c.requires in
     omega (arith, length-take (c.args.count - 0) c.args.table.now)
 
-pub invariant-of-result : goal.invariant-of-result
-invariant-of-result c =
+pub invariant_of-result : goal.invariant_of-result
+invariant_of-result c =
     ((mountable c.args.table.now c.args.count c.requires).few, (code_addressed c.args.table.now c.decoded.result c.args.count c.decoded.ensures c.requires, tt))
 
 pub returns : goal.returns

@@ -8,8 +8,8 @@ padded-requires c =
     let o = opened_is c.args.table.now c.args.count c.requires in
     omega (arith, length-take (c.args.count - 0) c.args.table.now)
 
-pub invariant-of-result : goal.invariant-of-result
-invariant-of-result c =
+pub invariant_of-result : goal.invariant_of-result
+invariant_of-result c =
     ((opened_is c.args.table.now c.args.count c.requires).few, (nodes_formed c.args.table.now c.padded.result c.args.count c.padded.ensures c.requires, tt))
 
 pub returns : goal.returns

@@ -5,18 +5,18 @@ use Rattle.grammar.specs.Tokens.{name, mark}
 use Rattle.commands.proofs.CommandSimple.{less_assigned, assigned, assigned_wrong}
 use Rattle.commands.proofs.simple_commands.assignment.Goals as goal
 
-pub returns-in-err-value : goal.returns-in-err-value
-returns-in-err-value c =
-    let x = err_from_is_err_and c.from-residual-in-err-value.result c.from-residual-in-err-value.ensures.1 in
-    let n = c.in-ok-name.ensures in
-    rw (x.1, x.2) (record { less = tt; is = assigned_wrong c.args.depth c.args.parser.now c.name.new.self c.expect.new.self c.expr.new.parser c.expr.new.parser c.args.table.now c.expr.new.table c.expr.new.table c.in-ok-name.name c.in-err-value.field-0.0 c.requires.1.0 n.0 n.1 c.in-ok-expect.ensures c.in-err-value.ensures.is })
+pub returns-in_err-value : goal.returns-in_err-value
+returns-in_err-value c =
+    let x = err_from_is_err_and c.from-residual-in_err-value.result c.from-residual-in_err-value.ensures.1 in
+    let n = c.in_ok-name.ensures in
+    rw (x.1, x.2) (record { less = tt; is = assigned_wrong c.args.depth c.args.parser.now c.name.new.self c.expect.new.self c.expr.new.parser c.expr.new.parser c.args.table.now c.expr.new.table c.expr.new.table c.in_ok-name.name c.in_err-value.field-0.0 c.requires.1.0 n.0 n.1 c.in_ok-expect.ensures c.in_err-value.ensures.is })
 
 pub returns : goal.returns
 returns c =
-    let n = c.in-ok-name.ensures in
-    let b = c.in-ok-expect.ensures in
-    let v = c.in-ok-value.ensures in
+    let n = c.in_ok-name.ensures in
+    let b = c.in_ok-expect.ensures in
+    let v = c.in_ok-value.ensures in
     record {
-      less = less_assigned c.args.parser.now c.name.new.self c.expect.new.self c.expr.new.parser c.emit.new.self (name c.in-ok-name.name) (mark Becomes) c.expr.new.table c.emit.new.table (Assign c.in-ok-name.name c.in-ok-value.value) c.name.new.self.place c.in-ok-value.value c.emit.result c.requires.0 n.1 b v.less c.emit.ensures;
-      is = assigned c.args.depth c.args.parser.now c.name.new.self c.expect.new.self c.expr.new.parser c.emit.new.self c.args.table.now c.expr.new.table c.emit.new.table c.in-ok-name.name c.in-ok-value.value c.emit.result c.requires.1.0 n.0 n.1 b v.is c.emit.ensures;
+      less = less_assigned c.args.parser.now c.name.new.self c.expect.new.self c.expr.new.parser c.emit.new.self (name c.in_ok-name.name) (mark Becomes) c.expr.new.table c.emit.new.table (Assign c.in_ok-name.name c.in_ok-value.value) c.name.new.self.place c.in_ok-value.value c.emit.result c.requires.0 n.1 b v.less c.emit.ensures;
+      is = assigned c.args.depth c.args.parser.now c.name.new.self c.expect.new.self c.expr.new.parser c.emit.new.self c.args.table.now c.expr.new.table c.emit.new.table c.in_ok-name.name c.in_ok-value.value c.emit.result c.requires.1.0 n.0 n.1 b v.is c.emit.ensures;
     }

@@ -5,26 +5,26 @@ use Rattle.declarations.proofs.DeclarNames.{naming, next_name, comma_broken, nam
 use Rattle.declarations.proofs.declarations.declared_names.Goals as goal
 
 pub loop-parser-init : goal.loop-parser-init
-loop-parser-init c = naming c.declared_name.new.parser c.declared_name.new.table c.in-ok-declared_name.ensures.less.0
+loop-parser-init c = naming c.declared_name.new.parser c.declared_name.new.table c.in_ok-declared_name.ensures.less.0
 
-pub returns-in-err-advance : goal.returns-in-err-advance
-returns-in-err-advance c =
-    let x = err_from_is_err_and c.from-residual-in-err-advance.result c.from-residual-in-err-advance.ensures.1 in
-    rw (x.1, x.2) (record { less = tt; is = comma_broken c.args.parser.now c.declared_name.new.parser c.loop-parser.parser c.args.table.now c.declared_name.new.table c.loop-parser.table (tt {0}) c.in-ok-declared_name.ensures.is c.loop-parser.invariant c.advance.new.self c.loop-parser.table c.in-err-advance.field-0.0 (sym c.loop-parser-test.ensures) c.in-err-advance.ensures })
+pub returns-in_err-advance : goal.returns-in_err-advance
+returns-in_err-advance c =
+    let x = err_from_is_err_and c.from-residual-in_err-advance.result c.from-residual-in_err-advance.ensures.1 in
+    rw (x.1, x.2) (record { less = tt; is = comma_broken c.args.parser.now c.declared_name.new.parser c.loop-parser.parser c.args.table.now c.declared_name.new.table c.loop-parser.table (tt {0}) c.in_ok-declared_name.ensures.is c.loop-parser.invariant c.advance.new.self c.loop-parser.table c.in_err-advance.field-0.0 (sym c.loop-parser-test.ensures) c.in_err-advance.ensures })
 
 pub loop-parser-preserved : goal.loop-parser-preserved
 loop-parser-preserved c =
-    let n = c.in-ok-declared_name-2.ensures in
-    next_name c.declared_name.new.parser c.loop-parser.parser c.advance.new.self c.declared_name-in-loop-parser.new.parser c.declared_name.new.table c.loop-parser.table c.declared_name-in-loop-parser.new.table (tt {0}) c.loop-parser.invariant (sym c.loop-parser-test.ensures) c.in-ok-advance.ensures n.less n.is
+    let n = c.in_ok-declared_name-2.ensures in
+    next_name c.declared_name.new.parser c.loop-parser.parser c.advance.new.self c.declared_name-in-loop-parser.new.parser c.declared_name.new.table c.loop-parser.table c.declared_name-in-loop-parser.new.table (tt {0}) c.loop-parser.invariant (sym c.loop-parser-test.ensures) c.in_ok-advance.ensures n.less n.is
 
-pub returns-in-err-declared_name-2 : goal.returns-in-err-declared_name-2
-returns-in-err-declared_name-2 c =
-    let x = err_from_is_err_and c.from-residual-in-err-declared_name-2.result c.from-residual-in-err-declared_name-2.ensures.1 in
-    rw (x.1, x.2) (record { less = tt; is = name_wrong c.args.parser.now c.declared_name.new.parser c.loop-parser.parser c.args.table.now c.declared_name.new.table c.loop-parser.table (tt {0}) c.in-ok-declared_name.ensures.is c.loop-parser.invariant c.advance.new.self c.declared_name-in-loop-parser.new.parser c.declared_name-in-loop-parser.new.table c.declared_name-in-loop-parser.new.table c.in-err-declared_name-2.field-0.0 (sym c.loop-parser-test.ensures) c.in-ok-advance.ensures c.in-err-declared_name-2.ensures.is })
+pub returns-in_err-declared_name-2 : goal.returns-in_err-declared_name-2
+returns-in_err-declared_name-2 c =
+    let x = err_from_is_err_and c.from-residual-in_err-declared_name-2.result c.from-residual-in_err-declared_name-2.ensures.1 in
+    rw (x.1, x.2) (record { less = tt; is = name_wrong c.args.parser.now c.declared_name.new.parser c.loop-parser.parser c.args.table.now c.declared_name.new.table c.loop-parser.table (tt {0}) c.in_ok-declared_name.ensures.is c.loop-parser.invariant c.advance.new.self c.declared_name-in-loop-parser.new.parser c.declared_name-in-loop-parser.new.table c.declared_name-in-loop-parser.new.table c.in_err-declared_name-2.field-0.0 (sym c.loop-parser-test.ensures) c.in_ok-advance.ensures c.in_err-declared_name-2.ensures.is })
 
 pub returns : goal.returns
 returns c =
-    let n = c.in-ok-declared_name.ensures in
+    let n = c.in_ok-declared_name.ensures in
     let k = c.loop-parser.invariant in
     record {
       less = used_both c.args.parser.now c.declared_name.new.parser c.loop-parser.parser c.expect.new.self (tt {0}) c.expect.result n.less k.fewer k.room (used_mark Colon c.loop-parser.parser c.expect.new.self c.expect.result c.expect.ensures);

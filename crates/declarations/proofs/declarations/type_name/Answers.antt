@@ -7,7 +7,7 @@ use Rattle.parser.specs.Advancing.{Broken}
 use Rattle.declarations.specs.Declaring.{cut}
 use Rattle.declarations.proofs.declarations.type_name.Goals as goal
 
-pub returns-in-err-advance : goal.returns-in-err-advance
-returns-in-err-advance c =
+pub returns-in_err-advance : goal.returns-in_err-advance
+returns-in_err-advance c =
     let x = err_from_is_err_and c.from-residual.result c.from-residual.ensures.1 in
-    rw (x.1, x.2) (cut c.in-TypeName.typ (subst (λ t. Broken c.args.parser.now t c.in-err-advance.field-0.0) (ap (λ t. tok (known_of c.args.parser.now.names) (meant t)) c.in-TypeName.is) c.in-err-advance.ensures))
+    rw (x.1, x.2) (cut c.in-TypeName.typ (subst (λ t. Broken c.args.parser.now t c.in_err-advance.field-0.0) (ap (λ t. tok (known_of c.args.parser.now.names) (meant t)) c.in-TypeName.is) c.in_err-advance.ensures))

@@ -5,7 +5,7 @@ use Rattle.expressions.proofs.leaves.constant.Goals as goal
 
 pub returns : goal.returns
 returns c =
-    let a = c.in-ok-advance.ensures in
+    let a = c.in_ok-advance.ensures in
     let l = c.emit.ensures in
     let same = ap (λ f. length f.tokens) l.same in
     record {
@@ -13,7 +13,7 @@ returns c =
       is = λ d le. constant_ok c.args.value d c.emit.result le c.args.parser.now c.advance.new.self c.emit.new.self c.args.table.now c.emit.new.table c.requires.1.0 a l;
     }
 
-pub returns-in-err-advance : goal.returns-in-err-advance
-returns-in-err-advance c =
+pub returns-in_err-advance : goal.returns-in_err-advance
+returns-in_err-advance c =
     let x = err_from_is_err_and c.from-residual.result c.from-residual.ensures.1 in
-    rw (x.1, x.2) (record { less = tt; is = λ d le. constant_broken c.args.value d le c.args.parser.now c.advance.new.self c.args.table.now c.args.table.now c.in-err-advance.field-0.0 c.requires.1.0 c.in-err-advance.ensures })
+    rw (x.1, x.2) (record { less = tt; is = λ d le. constant_broken c.args.value d le c.args.parser.now c.advance.new.self c.args.table.now c.args.table.now c.in_err-advance.field-0.0 c.requires.1.0 c.in_err-advance.ensures })

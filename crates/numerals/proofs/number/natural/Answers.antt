@@ -2,17 +2,17 @@ use Rattle.std.proofs.Common.{◌≡◌, ◌<◌, length, drop, sym, ◌∙◌, 
 use Rattle.numerals.proofs.Digits.{onward_all, last_digit, next_digit, no_more}
 use Rattle.numerals.proofs.number.natural.Goals as goal
 
-pub returns-in-err-n : goal.returns-in-err-n
-returns-in-err-n c =
+pub returns-in_err-n : goal.returns-in_err-n
+returns-in_err-n c =
     let xs = c.args.word.now in
     let i = c.loop-b.b-index in
     let some : 0 < length xs = omega arith in
-    c.from-residual.ensures ∙ sym (last_digit c.args.most c.loop-b.n xs i c.loop-b-test.true c.in-err-n.ensures) ∙ c.loop-b.invariant.0 ∙ onward_all c.args.most xs some
+    c.from-residual.ensures ∙ sym (last_digit c.args.most c.loop-b.n xs i c.loop-b-test.true c.in_err-n.ensures) ∙ c.loop-b.invariant.0 ∙ onward_all c.args.most xs some
 
 pub loop-b-preserved : goal.loop-b-preserved
 loop-b-preserved c =
     let xs = c.args.word.now in
-    let more = next_digit c.args.most c.loop-b.n xs c.loop-b.b-index c.in-ok-n.n c.loop-b-test.true c.in-ok-n.ensures in
+    let more = next_digit c.args.most c.loop-b.n xs c.loop-b.b-index c.in_ok-n.n c.loop-b-test.true c.in_ok-n.ensures in
     (more.0 ∙ c.loop-b.invariant.0, more.1)
 
 pub returns : goal.returns

@@ -172,7 +172,7 @@ def respell_antt(path, FIELDS, report):
     def word(m):
         w = m.group(0)
         before = text[: m.start()]
-        if re.search(r"[{;]\s*$", before[-200:]) and re.match(r" = ", text[m.end() : m.end() + 3]) and other_spelling(w):
+        if re.search(r"[{;]\s*$", before[-200:]) and re.match(r" =\s", text[m.end() : m.end() + 3]) and other_spelling(w):
             return plain(w)
         if before.endswith("."):
             head = re.search(r"([\w'.-]+)\.$", before[-200:])

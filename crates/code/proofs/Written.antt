@@ -67,7 +67,7 @@ addressed_mounts is rest few h =
     let within : n ≤ length table = omega (arith, length-append (map code_entry is) rest) in
     let code : said_by_all (take n table) ≡ is = ap said_by_all first ∙ all_said is in
     record {
-      mounting-is =
+      mounting_is =
           passing (counted (length table) n) (are_known (take n table)) (are_within n (take n table))
           (and_from _ _ (le-leb n 2048 few) (le-leb n (length table) within))
           (ap are_known first ∙ all_known is)

@@ -40,7 +40,7 @@ block-returns t c =
 
 pub choice-returns-in_err-test : goal.choice-returns-in_err-test
 choice-returns-in_err-test t c =
-    let x = err_from_is_err_and c.from-residual-in_err-test.result c.from-residual-in_err-test.ensures.1 in
+    let x = err_from_is_err_and c.from_residual-in_err-test.result c.from_residual-in_err-test.ensures.1 in
     let i = c.in_ok-inner.ensures in
     let a = reads_as c.args.parser.now c.advance.new.self (start If) c.requires.1.1 c.in_ok-advance.ensures in
     let g = choosing c.args.depth c.in_ok-inner.inner c.args.parser.now c.advance.new.self c.args.table.now i.0 i.1 a in
@@ -48,7 +48,7 @@ choice-returns-in_err-test t c =
 
 pub choice-returns-in_err-expect : goal.choice-returns-in_err-expect
 choice-returns-in_err-expect t c =
-    let x = err_from_is_err_and c.from-residual-in_err-expect.result c.from-residual-in_err-expect.ensures.1 in
+    let x = err_from_is_err_and c.from_residual-in_err-expect.result c.from_residual-in_err-expect.ensures.1 in
     let i = c.in_ok-inner.ensures in
     let a = reads_as c.args.parser.now c.advance.new.self (start If) c.requires.1.1 c.in_ok-advance.ensures in
     let g = choosing c.args.depth c.in_ok-inner.inner c.args.parser.now c.advance.new.self c.args.table.now i.0 i.1 a in
@@ -56,7 +56,7 @@ choice-returns-in_err-expect t c =
 
 pub choice-returns-in_err-yes : goal.choice-returns-in_err-yes
 choice-returns-in_err-yes t c =
-    let x = err_from_is_err_and c.from-residual-in_err-yes.result c.from-residual-in_err-yes.ensures.1 in
+    let x = err_from_is_err_and c.from_residual-in_err-yes.result c.from_residual-in_err-yes.ensures.1 in
     let i = c.in_ok-inner.ensures in
     let a = reads_as c.args.parser.now c.advance.new.self (start If) c.requires.1.1 c.in_ok-advance.ensures in
     let g = choosing c.args.depth c.in_ok-inner.inner c.args.parser.now c.advance.new.self c.args.table.now i.0 i.1 a in
@@ -64,7 +64,7 @@ choice-returns-in_err-yes t c =
 
 pub choice-returns-in_err-no : goal.choice-returns-in_err-no
 choice-returns-in_err-no t c =
-    let x = err_from_is_err_and c.from-residual-in_err-no.result c.from-residual-in_err-no.ensures.1 in
+    let x = err_from_is_err_and c.from_residual-in_err-no.result c.from_residual-in_err-no.ensures.1 in
     let i = c.in_ok-inner.ensures in
     let a = reads_as c.args.parser.now c.advance.new.self (start If) c.requires.1.1 c.in_ok-advance.ensures in
     let g = choosing c.args.depth c.in_ok-inner.inner c.args.parser.now c.advance.new.self c.args.table.now i.0 i.1 a in
@@ -98,12 +98,12 @@ cmd-returns-in_default t c = record {
 
 pub cmds-returns-in_err-advance : goal.cmds-returns-in_err-advance
 cmds-returns-in_err-advance t c =
-    let x = err_from_is_err_and c.from-residual-in_err-advance.result c.from-residual-in_err-advance.ensures.1 in
+    let x = err_from_is_err_and c.from_residual-in_err-advance.result c.from_residual-in_err-advance.ensures.1 in
     rw (x.1, x.2) (record { less = tt; is = next_broken c.args.depth c.in_ok-all.all c.loop-place.all c.args.parser.now c.cmd.new.parser c.loop-place.parser c.advance.new.self c.args.table.now c.cmd.new.table c.loop-place.table c.loop-place.table c.in_err-advance.field-0.0 c.requires.1.0 c.in_ok-all.ensures.is c.loop-place.invariant (sym c.loop-place-test.ensures) c.in_err-advance.ensures })
 
 pub cmds-returns-in_err-next : goal.cmds-returns-in_err-next
 cmds-returns-in_err-next t c =
-    let x = err_from_is_err_and c.from-residual-in_err-next.result c.from-residual-in_err-next.ensures.1 in
+    let x = err_from_is_err_and c.from_residual-in_err-next.result c.from_residual-in_err-next.ensures.1 in
     rw (x.1, x.2) (record { less = tt; is = next_wrong c.args.depth c.in_ok-all.all c.loop-place.all c.args.parser.now c.cmd.new.parser c.loop-place.parser c.advance.new.self c.cmd-in-loop-place.new.parser c.cmd-in-loop-place.new.parser c.args.table.now c.cmd.new.table c.loop-place.table c.cmd-in-loop-place.new.table c.cmd-in-loop-place.new.table c.in_err-next.field-0.0 c.requires.1.0 c.in_ok-all.ensures.is c.loop-place.invariant (sym c.loop-place-test.ensures) c.in_ok-advance.ensures c.in_err-next.ensures.is })
 
 pub cmds-loop-place-preserved : goal.cmds-loop-place-preserved
@@ -113,7 +113,7 @@ cmds-loop-place-preserved t c =
 
 pub cmds-returns-in_err-expect : goal.cmds-returns-in_err-expect
 cmds-returns-in_err-expect t c =
-    let x = err_from_is_err_and c.from-residual-in_err-expect.result c.from-residual-in_err-expect.ensures.1 in
+    let x = err_from_is_err_and c.from_residual-in_err-expect.result c.from_residual-in_err-expect.ensures.1 in
     rw (x.1, x.2) (record { less = tt; is = unended c.args.depth c.in_ok-all.all c.loop-place.all c.args.parser.now c.cmd.new.parser c.loop-place.parser c.expect.new.self c.args.table.now c.cmd.new.table c.loop-place.table c.loop-place.table c.in_err-expect.field-0.0 c.requires.1.0 c.in_ok-all.ensures.is c.loop-place.invariant (sym c.loop-place-test.ensures) c.in_err-expect.ensures })
 
 pub cmds-returns : goal.cmds-returns
@@ -127,7 +127,7 @@ cmds-returns t c =
 
 pub repetition-returns-in_err-test : goal.repetition-returns-in_err-test
 repetition-returns-in_err-test t c =
-    let x = err_from_is_err_and c.from-residual-in_err-test.result c.from-residual-in_err-test.ensures.1 in
+    let x = err_from_is_err_and c.from_residual-in_err-test.result c.from_residual-in_err-test.ensures.1 in
     let i = c.in_ok-inner.ensures in
     let a = reads_as c.args.parser.now c.advance.new.self (start While) c.requires.1.1 c.in_ok-advance.ensures in
     let g = looping c.args.depth c.in_ok-inner.inner c.args.parser.now c.advance.new.self c.args.table.now i.0 i.1 a in
@@ -135,7 +135,7 @@ repetition-returns-in_err-test t c =
 
 pub repetition-returns-in_err-expect : goal.repetition-returns-in_err-expect
 repetition-returns-in_err-expect t c =
-    let x = err_from_is_err_and c.from-residual-in_err-expect.result c.from-residual-in_err-expect.ensures.1 in
+    let x = err_from_is_err_and c.from_residual-in_err-expect.result c.from_residual-in_err-expect.ensures.1 in
     let i = c.in_ok-inner.ensures in
     let a = reads_as c.args.parser.now c.advance.new.self (start While) c.requires.1.1 c.in_ok-advance.ensures in
     let g = looping c.args.depth c.in_ok-inner.inner c.args.parser.now c.advance.new.self c.args.table.now i.0 i.1 a in
@@ -143,7 +143,7 @@ repetition-returns-in_err-expect t c =
 
 pub repetition-returns-in_err-body : goal.repetition-returns-in_err-body
 repetition-returns-in_err-body t c =
-    let x = err_from_is_err_and c.from-residual-in_err-body.result c.from-residual-in_err-body.ensures.1 in
+    let x = err_from_is_err_and c.from_residual-in_err-body.result c.from_residual-in_err-body.ensures.1 in
     let i = c.in_ok-inner.ensures in
     let a = reads_as c.args.parser.now c.advance.new.self (start While) c.requires.1.1 c.in_ok-advance.ensures in
     let g = looping c.args.depth c.in_ok-inner.inner c.args.parser.now c.advance.new.self c.args.table.now i.0 i.1 a in

@@ -7,7 +7,7 @@ use Rattle.commands.proofs.simple_commands.assignment.Goals as goal
 
 pub returns-in_err-value : goal.returns-in_err-value
 returns-in_err-value c =
-    let x = err_from_is_err_and c.from-residual-in_err-value.result c.from-residual-in_err-value.ensures.1 in
+    let x = err_from_is_err_and c.from_residual-in_err-value.result c.from_residual-in_err-value.ensures.1 in
     let n = c.in_ok-name.ensures in
     rw (x.1, x.2) (record { less = tt; is = assigned_wrong c.args.depth c.args.parser.now c.name.new.self c.expect.new.self c.expr.new.parser c.expr.new.parser c.args.table.now c.expr.new.table c.expr.new.table c.in_ok-name.name c.in_err-value.field-0.0 c.requires.1.0 n.0 n.1 c.in_ok-expect.ensures c.in_err-value.ensures.is })
 

@@ -7,12 +7,12 @@ use Rattle.declarations.proofs.declarations.declaration.Goals as goal
 
 pub returns-in_err-declared_names : goal.returns-in_err-declared_names
 returns-in_err-declared_names c =
-    let x = err_from_is_err_and c.from-residual.result c.from-residual.ensures.1 in
+    let x = err_from_is_err_and c.from_residual.result c.from_residual.ensures.1 in
     rw (x.1, x.2) (record { less = tt; is = names_wrong c.args.parser.now c.declared_names.new.parser c.declared_names.new.parser c.args.table.now c.declared_names.new.table c.declared_names.new.table c.in_err-declared_names.field-0.0 c.in_err-declared_names.ensures.is })
 
 pub returns-in_err-typ : goal.returns-in_err-typ
 returns-in_err-typ c =
-    let x = err_from_is_err_and c.from-residual-in_err-typ.result c.from-residual-in_err-typ.ensures.1 in
+    let x = err_from_is_err_and c.from_residual-in_err-typ.result c.from_residual-in_err-typ.ensures.1 in
     let n = c.in_ok-declared_names.ensures.is in
     rw (x.1, x.2) (record { less = tt; is = untyped c.args.parser.now c.declared_names.new.parser c.args.table.now c.declared_names.new.table n.0 n.1 c.type_name.new.parser c.declared_names.new.table c.in_err-typ.field-0.0 c.in_err-typ.ensures })
 

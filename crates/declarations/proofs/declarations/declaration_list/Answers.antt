@@ -19,7 +19,7 @@ loop-parser-preserved c =
 
 pub returns-in_err-declaration-2 : goal.returns-in_err-declaration-2
 returns-in_err-declaration-2 c =
-    let x = err_from_is_err_and c.from-residual-in_err-declaration-2.result c.from-residual-in_err-declaration-2.ensures.1 in
+    let x = err_from_is_err_and c.from_residual-in_err-declaration-2.result c.from_residual-in_err-declaration-2.ensures.1 in
     rw (x.1, x.2) (record { less = tt; is = next_wrong c.args.parser.now c.declaration.new.parser c.loop-parser.parser c.args.table.now c.declaration.new.table c.loop-parser.table (tt {0}) c.in_ok-declaration.ensures.is c.loop-parser.invariant c.declaration-in-Name.new.parser c.declaration-in-Name.new.parser c.declaration-in-Name.new.table c.declaration-in-Name.new.table c.in_err-declaration-2.field-0.0 (ap (λ t. is_name (tok (known_of c.loop-parser.parser.names) (meant t))) c.in-Name.is) c.in_err-declaration-2.ensures.is })
 
 pub returns : goal.returns

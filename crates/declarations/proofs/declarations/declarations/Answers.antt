@@ -13,7 +13,7 @@ returns-then-not-is_at c = record {
 
 pub returns-in_err-advance : goal.returns-in_err-advance
 returns-in_err-advance c =
-    let x = err_from_is_err_and c.from-residual.result c.from-residual.ensures.1 in
+    let x = err_from_is_err_and c.from_residual.result c.from_residual.ensures.1 in
     rw (x.1, x.2) (record { less = tt; is = vars_broken c.args.parser.now c.advance.new.self c.args.table.now c.args.table.now c.in_err-advance.field-0.0 (sym c.if-not-is_at.ensures) c.in_err-advance.ensures })
 
 pub returns : goal.returns

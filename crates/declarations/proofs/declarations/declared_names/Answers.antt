@@ -9,7 +9,7 @@ loop-parser-init c = naming c.declared_name.new.parser c.declared_name.new.table
 
 pub returns-in_err-advance : goal.returns-in_err-advance
 returns-in_err-advance c =
-    let x = err_from_is_err_and c.from-residual-in_err-advance.result c.from-residual-in_err-advance.ensures.1 in
+    let x = err_from_is_err_and c.from_residual-in_err-advance.result c.from_residual-in_err-advance.ensures.1 in
     rw (x.1, x.2) (record { less = tt; is = comma_broken c.args.parser.now c.declared_name.new.parser c.loop-parser.parser c.args.table.now c.declared_name.new.table c.loop-parser.table (tt {0}) c.in_ok-declared_name.ensures.is c.loop-parser.invariant c.advance.new.self c.loop-parser.table c.in_err-advance.field-0.0 (sym c.loop-parser-test.ensures) c.in_err-advance.ensures })
 
 pub loop-parser-preserved : goal.loop-parser-preserved
@@ -19,7 +19,7 @@ loop-parser-preserved c =
 
 pub returns-in_err-declared_name-2 : goal.returns-in_err-declared_name-2
 returns-in_err-declared_name-2 c =
-    let x = err_from_is_err_and c.from-residual-in_err-declared_name-2.result c.from-residual-in_err-declared_name-2.ensures.1 in
+    let x = err_from_is_err_and c.from_residual-in_err-declared_name-2.result c.from_residual-in_err-declared_name-2.ensures.1 in
     rw (x.1, x.2) (record { less = tt; is = name_wrong c.args.parser.now c.declared_name.new.parser c.loop-parser.parser c.args.table.now c.declared_name.new.table c.loop-parser.table (tt {0}) c.in_ok-declared_name.ensures.is c.loop-parser.invariant c.advance.new.self c.declared_name-in-loop-parser.new.parser c.declared_name-in-loop-parser.new.table c.declared_name-in-loop-parser.new.table c.in_err-declared_name-2.field-0.0 (sym c.loop-parser-test.ensures) c.in_ok-advance.ensures c.in_err-declared_name-2.ensures.is })
 
 pub returns : goal.returns

@@ -13,17 +13,17 @@ use Rattle.expressions.proofs.expressions.+bracketed_expr_factor_first_term_nega
 
 pub term-returns-in_err-left : goal.term-returns-in_err-left
 term-returns-in_err-left t c =
-    let x = err_from_is_err_and c.from-residual.result c.from-residual.ensures.1 in
+    let x = err_from_is_err_and c.from_residual.result c.from_residual.ensures.1 in
     rw (x.1, x.2) (record { less = tt; is = term_refused c.args.depth c.args.parser.now c.factor.new.parser c.args.table.now c.factor.new.table c.in_err-left.field-0.0 c.in_err-left.ensures.is })
 
 pub term-returns-in_err-advance : goal.term-returns-in_err-advance
 term-returns-in_err-advance t c =
-    let x = err_from_is_err_and c.from-residual-in_err-advance.result c.from-residual-in_err-advance.ensures.1 in
+    let x = err_from_is_err_and c.from_residual-in_err-advance.result c.from_residual-in_err-advance.ensures.1 in
     rw (x.1, x.2) (record { less = tt; is = loop_broken products c.args.depth c.requires.1 c.in_ok-left.left c.loop-op.left c.args.parser.now c.factor.new.parser c.loop-op.parser c.args.table.now c.factor.new.table c.loop-op.table (term_opens c.args.depth c.in_ok-left.left c.args.parser.now c.factor.new.parser c.args.table.now c.factor.new.table c.in_ok-left.ensures.is) c.loop-op.invariant c.in-Some.op c.advance.new.self c.loop-op.table c.in_err-advance.field-0.0 (sym c.in-Some.ensures) c.in_err-advance.ensures })
 
 pub term-returns-in_err-right : goal.term-returns-in_err-right
 term-returns-in_err-right t c =
-    let x = err_from_is_err_and c.from-residual-in_err-right.result c.from-residual-in_err-right.ensures.1 in
+    let x = err_from_is_err_and c.from_residual-in_err-right.result c.from_residual-in_err-right.ensures.1 in
     rw (x.1, x.2) (record { less = tt; is = loop_refused products c.args.depth c.requires.1 c.in_ok-left.left c.loop-op.left c.args.parser.now c.factor.new.parser c.loop-op.parser c.args.table.now c.factor.new.table c.loop-op.table (term_opens c.args.depth c.in_ok-left.left c.args.parser.now c.factor.new.parser c.args.table.now c.factor.new.table c.in_ok-left.ensures.is) c.loop-op.invariant c.in-Some.op c.advance.new.self c.factor-in-Some.new.parser c.factor-in-Some.new.table c.in_err-right.field-0.0 (sym c.in-Some.ensures) c.in_ok-advance.ensures c.in_err-right.ensures.is })
 
 pub term-loop-op-preserved : goal.term-loop-op-preserved
@@ -51,12 +51,12 @@ term-returns t c =
 
 pub simple-returns-in_err-advance : goal.simple-returns-in_err-advance
 simple-returns-in_err-advance t c =
-    let x = err_from_is_err_and c.from-residual-in_err-advance.result c.from-residual-in_err-advance.ensures.1 in
+    let x = err_from_is_err_and c.from_residual-in_err-advance.result c.from_residual-in_err-advance.ensures.1 in
     rw (x.1, x.2) (record { less = tt; is = loop_broken sums c.args.depth c.requires.1 c.in_ok-left.left c.loop-op.left c.args.parser.now c.first_term.new.parser c.loop-op.parser c.args.table.now c.first_term.new.table c.loop-op.table c.in_ok-left.ensures.is c.loop-op.invariant c.in-Some.op c.advance.new.self c.loop-op.table c.in_err-advance.field-0.0 (sym c.in-Some.ensures) c.in_err-advance.ensures })
 
 pub simple-returns-in_err-right : goal.simple-returns-in_err-right
 simple-returns-in_err-right t c =
-    let x = err_from_is_err_and c.from-residual-in_err-right.result c.from-residual-in_err-right.ensures.1 in
+    let x = err_from_is_err_and c.from_residual-in_err-right.result c.from_residual-in_err-right.ensures.1 in
     rw (x.1, x.2) (record { less = tt; is = loop_refused sums c.args.depth c.requires.1 c.in_ok-left.left c.loop-op.left c.args.parser.now c.first_term.new.parser c.loop-op.parser c.args.table.now c.first_term.new.table c.loop-op.table c.in_ok-left.ensures.is c.loop-op.invariant c.in-Some.op c.advance.new.self c.next_term.new.parser c.next_term.new.table c.in_err-right.field-0.0 (sym c.in-Some.ensures) c.in_ok-advance.ensures c.in_err-right.ensures.is })
 
 pub simple-loop-op-preserved : goal.simple-loop-op-preserved
@@ -84,17 +84,17 @@ simple-returns t c =
 
 pub expr-returns-in_err-left : goal.expr-returns-in_err-left
 expr-returns-in_err-left t c =
-    let x = err_from_is_err_and c.from-residual.result c.from-residual.ensures.1 in
+    let x = err_from_is_err_and c.from_residual.result c.from_residual.ensures.1 in
     rw (x.1, x.2) (record { less = tt; is = expr_refused c.args.depth c.args.parser.now c.simple.new.parser c.args.table.now c.simple.new.table c.in_err-left.field-0.0 c.in_err-left.ensures.is })
 
 pub expr-returns-in_err-advance : goal.expr-returns-in_err-advance
 expr-returns-in_err-advance t c =
-    let x = err_from_is_err_and c.from-residual-in_err-advance.result c.from-residual-in_err-advance.ensures.1 in
+    let x = err_from_is_err_and c.from_residual-in_err-advance.result c.from_residual-in_err-advance.ensures.1 in
     rw (x.1, x.2) (record { less = tt; is = λ L mk. chain_stop (expr_opens c.args.depth c.in_ok-left.left c.args.parser.now c.simple.new.parser c.args.table.now c.simple.new.table c.in_ok-left.ensures.is L mk) (operator_broken relations c.args.depth c.requires.1 c.in_ok-left.left c.simple.new.parser c.simple.new.table c.in-Some.op (sym c.in-Some.ensures) L mk c.in_err-advance.ensures) })
 
 pub expr-returns-in_err-right : goal.expr-returns-in_err-right
 expr-returns-in_err-right t c =
-    let x = err_from_is_err_and c.from-residual-in_err-right.result c.from-residual-in_err-right.ensures.1 in
+    let x = err_from_is_err_and c.from_residual-in_err-right.result c.from_residual-in_err-right.ensures.1 in
     rw (x.1, x.2) (record { less = tt; is = λ L mk. chain_stop (expr_opens c.args.depth c.in_ok-left.left c.args.parser.now c.simple.new.parser c.args.table.now c.simple.new.table c.in_ok-left.ensures.is L mk) (operand_refused relations c.args.depth c.requires.1 c.in_ok-left.left c.simple.new.parser c.simple.new.table c.in-Some.op (sym c.in-Some.ensures) L mk c.in_ok-advance.ensures c.in_err-right.ensures.is) })
 
 pub expr-returns-in-None : goal.expr-returns-in-None
@@ -118,7 +118,7 @@ expr-returns-in_ok-right t c =
 
 pub first_term-returns-in_err-part : goal.first_term-returns-in_err-part
 first_term-returns-in_err-part t c =
-    let x = err_from_is_err_and c.from-residual-in_err-part.result c.from-residual-in_err-part.ensures.1 in
+    let x = err_from_is_err_and c.from_residual-in_err-part.result c.from_residual-in_err-part.ensures.1 in
     rw (x.1, x.2) (record { less = tt; is = minus_refused c.args.depth c.requires.1 c.args.parser.now c.advance.new.self c.next_term.new.parser c.args.table.now c.next_term.new.table c.in_err-part.field-0.0 (sym c.if-not-is_minus.ensures) c.in_ok-advance.ensures c.in_err-part.ensures.is })
 
 pub first_term-returns : goal.first_term-returns
@@ -141,12 +141,12 @@ first_term-returns-then-not-is_minus t c =
 
 pub bracketed-returns-in_err-part : goal.bracketed-returns-in_err-part
 bracketed-returns-in_err-part t c =
-    let x = err_from_is_err_and c.from-residual-in_err-part.result c.from-residual-in_err-part.ensures.1 in
+    let x = err_from_is_err_and c.from_residual-in_err-part.result c.from_residual-in_err-part.ensures.1 in
     rw (x.1, x.2) (record { less = tt; is = bracket_refused c.args.depth c.in_ok-inner.inner c.args.parser.now c.advance.new.self c.args.table.now c.in_ok-inner.ensures.0 c.in_ok-inner.ensures.1 c.in_ok-advance.ensures c.requires.1.1 c.expr.new.parser c.expr.new.table c.in_err-part.field-0.0 c.in_err-part.ensures.is })
 
 pub bracketed-returns-in_err-expect : goal.bracketed-returns-in_err-expect
 bracketed-returns-in_err-expect t c =
-    let x = err_from_is_err_and c.from-residual-in_err-expect.result c.from-residual-in_err-expect.ensures.1 in
+    let x = err_from_is_err_and c.from_residual-in_err-expect.result c.from_residual-in_err-expect.ensures.1 in
     rw (x.1, x.2) (record { less = tt; is = bracket_missed c.args.depth c.in_ok-inner.inner c.args.parser.now c.advance.new.self c.args.table.now c.in_ok-inner.ensures.0 c.in_ok-inner.ensures.1 c.in_ok-advance.ensures c.requires.1.1 c.in_ok-part.part c.expr.new.parser c.expect.new.self c.expr.new.table c.in_err-expect.field-0.0 c.in_ok-part.ensures.is c.in_err-expect.ensures })
 
 pub bracketed-returns : goal.bracketed-returns
@@ -161,7 +161,7 @@ bracketed-returns t c =
 
 pub negated-returns-in_err-part : goal.negated-returns-in_err-part
 negated-returns-in_err-part t c =
-    let x = err_from_is_err_and c.from-residual-in_err-part.result c.from-residual-in_err-part.ensures.1 in
+    let x = err_from_is_err_and c.from_residual-in_err-part.result c.from_residual-in_err-part.ensures.1 in
     rw (x.1, x.2) (record { less = tt; is = not_refused c.args.depth c.in_ok-inner.inner c.args.parser.now c.advance.new.self c.args.table.now c.in_ok-inner.ensures.0 c.in_ok-inner.ensures.1 c.in_ok-advance.ensures c.requires.1.1 c.factor.new.parser c.factor.new.table c.in_err-part.field-0.0 c.in_err-part.ensures.is })
 
 pub negated-returns : goal.negated-returns
@@ -177,22 +177,22 @@ negated-returns t c =
 
 pub rounded-returns-in_err-left : goal.rounded-returns-in_err-left
 rounded-returns-in_err-left t c =
-    let x = err_from_is_err_and c.from-residual-in_err-left.result c.from-residual-in_err-left.ensures.1 in
+    let x = err_from_is_err_and c.from_residual-in_err-left.result c.from_residual-in_err-left.ensures.1 in
     rw (x.1, x.2) (record { less = tt; is = left_refused c.args.depth c.in_ok-inner.inner c.args.parser.now c.advance.new.self c.args.table.now c.in_ok-inner.ensures.0 c.in_ok-inner.ensures.1 c.in_ok-advance.ensures c.requires.1.1 c.open.new.self c.in_ok-open.ensures c.factor.new.parser c.factor.new.table c.in_err-left.field-0.0 c.in_err-left.ensures.is })
 
 pub rounded-returns-in_err-expect : goal.rounded-returns-in_err-expect
 rounded-returns-in_err-expect t c =
-    let x = err_from_is_err_and c.from-residual-in_err-expect.result c.from-residual-in_err-expect.ensures.1 in
+    let x = err_from_is_err_and c.from_residual-in_err-expect.result c.from_residual-in_err-expect.ensures.1 in
     rw (x.1, x.2) (record { less = tt; is = slash_missed c.args.depth c.in_ok-inner.inner c.args.parser.now c.advance.new.self c.args.table.now c.in_ok-inner.ensures.0 c.in_ok-inner.ensures.1 c.in_ok-advance.ensures c.requires.1.1 c.open.new.self c.in_ok-open.ensures c.in_ok-left.left c.factor.new.parser c.factor.new.table c.in_ok-left.ensures.is c.expect.new.self c.factor.new.table c.in_err-expect.field-0.0 c.in_err-expect.ensures })
 
 pub rounded-returns-in_err-right : goal.rounded-returns-in_err-right
 rounded-returns-in_err-right t c =
-    let x = err_from_is_err_and c.from-residual-in_err-right.result c.from-residual-in_err-right.ensures.1 in
+    let x = err_from_is_err_and c.from_residual-in_err-right.result c.from_residual-in_err-right.ensures.1 in
     rw (x.1, x.2) (record { less = tt; is = right_refused c.args.depth c.in_ok-inner.inner c.args.parser.now c.advance.new.self c.args.table.now c.in_ok-inner.ensures.0 c.in_ok-inner.ensures.1 c.in_ok-advance.ensures c.requires.1.1 c.open.new.self c.in_ok-open.ensures c.in_ok-left.left c.factor.new.parser c.factor.new.table c.in_ok-left.ensures.is c.expect.new.self c.in_ok-expect.ensures c.factor-2.new.parser c.factor-2.new.table c.in_err-right.field-0.0 c.in_err-right.ensures.is })
 
 pub rounded-returns-in_err-expect-2 : goal.rounded-returns-in_err-expect-2
 rounded-returns-in_err-expect-2 t c =
-    let x = err_from_is_err_and c.from-residual-in_err-expect-2.result c.from-residual-in_err-expect-2.ensures.1 in
+    let x = err_from_is_err_and c.from_residual-in_err-expect-2.result c.from_residual-in_err-expect-2.ensures.1 in
     rw (x.1, x.2) (record { less = tt; is = close_missed c.args.depth c.in_ok-inner.inner c.args.parser.now c.advance.new.self c.args.table.now c.in_ok-inner.ensures.0 c.in_ok-inner.ensures.1 c.in_ok-advance.ensures c.requires.1.1 c.open.new.self c.in_ok-open.ensures c.in_ok-left.left c.factor.new.parser c.factor.new.table c.in_ok-left.ensures.is c.expect.new.self c.in_ok-expect.ensures c.in_ok-right.right c.factor-2.new.parser c.factor-2.new.table c.in_ok-right.ensures.is c.expect-2.new.self c.factor-2.new.table c.in_err-expect-2.field-0.0 c.in_err-expect-2.ensures })
 
 pub rounded-returns : goal.rounded-returns

@@ -15,5 +15,5 @@ returns c =
 
 pub returns-in_err-name : goal.returns-in_err-name
 returns-in_err-name c =
-    let x = err_from_is_err_and c.from-residual.result c.from-residual.ensures.1 in
+    let x = err_from_is_err_and c.from_residual.result c.from_residual.ensures.1 in
     rw (x.1, x.2) (record { less = tt; is = λ d le. variable_refused d le c.args.parser.now c.name.new.self c.args.table.now c.args.table.now c.in_err-name.field-0.0 c.requires.1 c.in_err-name.ensures })

@@ -13,7 +13,7 @@ returns-in_err-n c =
     let step = value_step n xs some in
     let grows = value_grows (10 * n + (get_or xs 0 0 - 48)) (behind xs) in
     let over = longer_over n (get_or xs 0 0) c.in_err-n.ensures in
-    c.from-residual.ensures ∙ decimal_over c.args.digits.now (omega arith)
+    c.from_residual.ensures ∙ decimal_over c.args.digits.now (omega arith)
 
 pub loop-rest-preserved : goal.loop-rest-preserved
 loop-rest-preserved c =

@@ -3,7 +3,7 @@ use Rattle.lexer.specs.Words.{symbol}
 use Rattle.lexer.proofs.Steps.{bools, behind}
 use Rattle.lexer.proofs.Symbols.{Apart, becomes_step, symbol_step, symbol_found}
 use Rattle.lexer.proofs.lexing.symbol_lexeme.Goals as goal
-use Rattle.lexer.proofs.lexing.symbol_lexeme.Goals.{then-text-lt2, else-text-lt2+in-58·+in_default·, else-text-lt2+in_default·}
+use Rattle.lexer.proofs.lexing.symbol_lexeme.Goals.{then-text-lt2, else-text-lt2+in-58+in_default-1, else-text-lt2+in_default-1}
 
 pub returns-in-58 : goal.returns-in-58
 returns-in-58 c =
@@ -17,5 +17,5 @@ pub returns-in-Some : goal.returns-in-Some
 returns-in-Some c =
     let xs = c.args.text.now in
     let some : 0 < length xs = omega (arith, bools) in
-    let apart : Apart xs = elim c.in-len1-up·.branch [ then-text-lt2 w ↦ λ a b d. omega (arith, bools) | else-text-lt2+in-58·+in_default· w ↦ λ a b d. omega (arith, bools) | else-text-lt2+in_default· w ↦ λ a b d. omega (arith, bools) ] in
+    let apart : Apart xs = elim c.in-len1-up-2.branch [ then-text-lt2 w ↦ λ a b d. omega (arith, bools) | else-text-lt2+in-58+in_default-1 w ↦ λ a b d. omega (arith, bools) | else-text-lt2+in_default-1 w ↦ λ a b d. omega (arith, bools) ] in
     symbol_found c.args.place (behind xs) _ (symbol (get_or xs 0 0)) c.in-Some.ensures ∙ sym (symbol_step c.args.place xs some apart)

@@ -26,8 +26,8 @@ returns-in_default c =
     let k : 0 < length ys = omega (arith, bools) in
     sym (longer_right xs ys h k) ∙ c.loop-left.invariant
 
-pub returns-in_default·2 : goal.returns-in_default·2
-returns-in_default·2 c =
+pub returns-in_default-2 : goal.returns-in_default-2
+returns-in_default-2 c =
     let xs = c.loop-left.left.now in
     let ys = c.loop-left.right.now in
     let h : 0 < length xs = omega (arith, bools) in

@@ -9,7 +9,7 @@ returns-in_err-natural c =
     let xs = c.args.word.now in
     let some : 0 < length xs = omega (arith, bools) in
     let minus : get_or xs 0 0 ≡ 45 = omega (arith, bools) in
-    c.from-residual.ensures ∙ ap below c.in_err-natural.ensures ∙ minus_first xs some minus
+    c.from_residual.ensures ∙ ap below c.in_err-natural.ensures ∙ minus_first xs some minus
 
 pub returns-in_ok-natural : goal.returns-in_ok-natural
 returns-in_ok-natural c =

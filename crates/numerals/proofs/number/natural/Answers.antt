@@ -7,7 +7,7 @@ returns-in_err-n c =
     let xs = c.args.word.now in
     let i = c.loop-b.b-index in
     let some : 0 < length xs = omega arith in
-    c.from-residual.ensures ∙ sym (last_digit c.args.most c.loop-b.n xs i c.loop-b-test.true c.in_err-n.ensures) ∙ c.loop-b.invariant.0 ∙ onward_all c.args.most xs some
+    c.from_residual.ensures ∙ sym (last_digit c.args.most c.loop-b.n xs i c.loop-b-test.true c.in_err-n.ensures) ∙ c.loop-b.invariant.0 ∙ onward_all c.args.most xs some
 
 pub loop-b-preserved : goal.loop-b-preserved
 loop-b-preserved c =

@@ -16,7 +16,7 @@ program-requires c = let b = c.in_ok-parser.ensures in (b.ready, b.count)
 
 pub returns-in_err-program : goal.returns-in_err-program
 returns-in_err-program c =
-    let x = err_from_is_err_and c.from-residual-in_err-program.result c.from-residual-in_err-program.ensures.1 in
+    let x = err_from_is_err_and c.from_residual-in_err-program.result c.from_residual-in_err-program.ensures.1 in
     let e = c.in_err-program.field-0.0 in
     let b = c.in_ok-parser.ensures in
     rw (x.1, x.2) (parsed (length c.args.table.now) c.args.text.now c.if-text-gt-MAX_TEXT.false (ahead c.in_ok-parser.parser) (refused (number_of e.question) e.place) b.tokens c.in_err-program.ensures)

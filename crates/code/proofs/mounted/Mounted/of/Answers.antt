@@ -10,7 +10,7 @@ decoded-requires c =
 
 pub invariant_of-result : goal.invariant_of-result
 invariant_of-result c =
-    ((mountable c.args.table.now c.args.count c.requires).few, (code_addressed c.args.table.now c.decoded.result c.args.count c.decoded.ensures c.requires, tt))
+    record { few = (mountable c.args.table.now c.args.count c.requires).few; within = code_addressed c.args.table.now c.decoded.result c.args.count c.decoded.ensures c.requires }
 
 pub returns : goal.returns
 returns c =

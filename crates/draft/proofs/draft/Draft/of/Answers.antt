@@ -10,7 +10,7 @@ padded-requires c =
 
 pub invariant_of-result : goal.invariant_of-result
 invariant_of-result c =
-    ((opened_is c.args.table.now c.args.count c.requires).few, (nodes_formed c.args.table.now c.padded.result c.args.count c.padded.ensures c.requires, tt))
+    record { few = (opened_is c.args.table.now c.args.count c.requires).few; formed = nodes_formed c.args.table.now c.padded.result c.args.count c.padded.ensures c.requires }
 
 pub returns : goal.returns
 returns c =

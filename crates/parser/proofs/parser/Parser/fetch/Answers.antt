@@ -9,5 +9,5 @@ returns c = subst (Fetched c.args.self.now) (sym c.put.ensures) (fetched c.args.
 
 pub returns-in_err-lexeme : goal.returns-in_err-lexeme
 returns-in_err-lexeme c =
-    let x = err_from_is_err_and c.from-residual.result c.from-residual.ensures.1 in
+    let x = err_from_is_err_and c.from_residual.result c.from_residual.ensures.1 in
     rw (x.1, x.2) (not_fetched c.args.self.now c.in_err-lexeme.field-0.0 c.requires.1 c.in_err-lexeme.ensures)

@@ -10,5 +10,5 @@ returns-in_default-number c = name_many c.args.self.now c.in-Name.word c.number.
 
 pub returns-in_err-fetch : goal.returns-in_err-fetch
 returns-in_err-fetch c =
-    let x = err_from_is_err_and c.from-residual.result c.from-residual.ensures.1 in
+    let x = err_from_is_err_and c.from_residual.result c.from_residual.ensures.1 in
     rw (x.1, x.2) (name_cut c.args.self.now c.in-Name.word c.number.new.self c.in-Some.number c.in_err-fetch.field-0.0 c.in-Name.is c.in-Some.ensures c.in_err-fetch.ensures)

@@ -9,5 +9,5 @@ returns c = subst (Fresh c.args.text.now) (sym c.at.ensures) (begun c.args.text.
 
 pub returns-in_err-first : goal.returns-in_err-first
 returns-in_err-first c =
-    let x = err_from_is_err_and c.from-residual.result c.from-residual.ensures.1 in
+    let x = err_from_is_err_and c.from_residual.result c.from_residual.ensures.1 in
     rw (x.1, x.2) (not_begun c.args.text.now c.in_err-first.field-0.0 c.in_err-first.ensures)

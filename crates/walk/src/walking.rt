@@ -10,7 +10,7 @@ use tosca::table::Node;
 // The answer for a node from the answers of its parts; none where the node is no expression.
 fn answer<R: Reading>(reading: &R, node: Option<Node>, parts: &[R::Answer]) -> Option<R::Answer>
     requires { Ready (length parts.now) node }
-    ensures { (d : R.Answer) → result ≡ answered (algebra reading.now) (λ k. slice_index_or parts.now k d) node }
+    ensures { (d : R.Answer) → result ≡ answered (R.algebra reading.now) (λ k. slice_index_or parts.now k d) node }
 {
     match node {
         Some(Node::Const(value)) => Some(reading.constant(value)),
@@ -25,7 +25,7 @@ fn answer<R: Reading>(reading: &R, node: Option<Node>, parts: &[R::Answer]) -> O
 
 // Writes the answer for each expression node of the draft at the node's number, as far as there is room.
 pub fn walk<R: Reading>(reading: &R, draft: &Draft, answers: &mut [R::Answer])
-    ensures { answers.new ≡ filled (algebra reading.now) (entries_of draft.now) 0 answers.old }
+    ensures { answers.new ≡ filled (R.algebra reading.now) (entries_of draft.now) 0 answers.old }
 {
     for (n, entry) in draft.entries().iter().enumerate() {
         if n >= answers.len() {

@@ -17,5 +17,5 @@ pub returns-in-Some : goal.returns-in-Some
 returns-in-Some c =
     let xs = c.args.text.now in
     let some : 0 < length xs = omega (arith, bools) in
-    let apart : Apart xs = elim c.in-len1-up-2.branch [ then-text-lt2 w ↦ λ a b d. omega (arith, bools) | else-text-lt2+in-58+in_default-1 w ↦ λ a b d. omega (arith, bools) | else-text-lt2+in_default-1 w ↦ λ a b d. omega (arith, bools) ] in
+    let apart : Apart xs = elim c.in-len1-up-1.branch [ then-text-lt2 w ↦ λ a b d. omega (arith, bools) | else-text-lt2+in-58+in_default-1 w ↦ λ a b d. omega (arith, bools) | else-text-lt2+in_default-1 w ↦ λ a b d. omega (arith, bools) ] in
     symbol_found c.args.place (behind xs) _ (symbol (get_or xs 0 0)) c.in-Some.ensures ∙ sym (symbol_step c.args.place xs some apart)

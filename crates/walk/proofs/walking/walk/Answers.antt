@@ -4,14 +4,14 @@ use Rattle.walk.proofs.Filling.{turn_length, turn_ready, turn_some, turn_none, t
 use Rattle.walk.proofs.walking.walk.Goals as goal
 use Rattle.walk.proofs.walking.walk.Goals.{in-Some, in_default}
 
-pub shape-of-answers-then-n-answers : goal.shape-of-answers-then-n-answers
-shape-of-answers-then-n-answers g c = turn_length _ _ c.args.draft.now.formed _ _ _ c.loop-n.invariant
+pub shape_of-answers-then-n-answers : goal.shape_of-answers-then-n-answers
+shape_of-answers-then-n-answers g c = turn_length _ _ c.args.draft.now.formed _ _ _ c.loop-n.invariant
 
-pub shape-of-answers : goal.shape-of-answers
-shape-of-answers g c = turn_length _ _ c.args.draft.now.formed _ _ _ c.loop-n.invariant
+pub shape_of-answers : goal.shape_of-answers
+shape_of-answers g c = turn_length _ _ c.args.draft.now.formed _ _ _ c.loop-n.invariant
 
-pub offset-bounds-answers-n : goal.offset-bounds-answers-n
-offset-bounds-answers-n g c =
+pub offset_bounds-answers-n : goal.offset_bounds-answers-n
+offset_bounds-answers-n g c =
     let long =
     turn_length (g.R.Reading.algebra c.args.reading.now) (entries_of c.args.draft.now) c.args.draft.now.formed c.args.answers.now c.loop-n.answers c.loop-n.n
     c.loop-n.invariant

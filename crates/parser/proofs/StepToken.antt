@@ -88,7 +88,7 @@ advanced p q (Ok u) h go f = reads p q p.names h f h.few (sym (plain_learns (kno
 advanced p q (Err e) h go f = ap (feed (known_of p.names)) f
 
 -- a name
-pub next_name : (p : Parser) (w : MutBor (List ℕ)) (n : ℕ) → p.token ≡ t.Name w → n ≡ numbered (known_of p.names) w.now → next p ≡ g.name n
+pub next_name : (p : Parser) (w : Bor (List ℕ)) (n : ℕ) → p.token ≡ t.Name w → n ≡ numbered (known_of p.names) w.now → next p ≡ g.name n
 next_name p w n is e = ap (λ x. tok (known_of p.names) (meant x)) is ∙ ap g.name (sym e)
 
 pub named : (p q : Parser) (w : Bor (List ℕ)) (m : Names) (n : ℕ) → Ready p → p.token ≡ t.Name w → Numbered p.names w.now m (Some n) → Fetched (naming p m) q → Named p q (Ok n)

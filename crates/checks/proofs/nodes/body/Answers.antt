@@ -2,8 +2,8 @@ use Rattle.draft.specs.Opening.{entries_of}
 use Rattle.checks.proofs.Within.{some_count, last_below, last_program, body_below, body_command, body_tree}
 use Rattle.checks.proofs.nodes.body.Goals as goal
 
-pub overflow-sub-count : goal.overflow-sub-count
-overflow-sub-count c = some_count (entries_of c.args.draft.now) c.args.draft.now.formed c.count.result c.count.ensures
+pub overflow_sub-count : goal.overflow_sub-count
+overflow_sub-count c = some_count (entries_of c.args.draft.now) c.args.draft.now.formed c.count.result c.count.ensures
 
 pub node_at-requires : goal.node_at-requires
 node_at-requires c = last_below (entries_of c.args.draft.now) c.args.draft.now.formed c.count.result c.count.ensures

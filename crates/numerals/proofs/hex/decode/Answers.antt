@@ -8,4 +8,4 @@ pub loop-rest-preserved : goal.loop-rest-preserved
 loop-rest-preserved c =
     let ds = c.loop-rest.rest.now in
     let two : 1 < length ds = omega (arith, bools) in
-    ap (λ xs. after xs (bytes_of (behind ds))) c.in_ok-push.ensures.items ∙ after_more (vec_items c.loop-rest.bytes) ds c.in-Some.b two c.in-Some.ensures ∙ c.loop-rest.invariant
+    ap (λ xs. after xs (bytes_of (behind ds))) c.in_ok-push-in-Some.ensures.items ∙ after_more (vec_items c.loop-rest.bytes) ds c.in-Some.b two c.in-Some.ensures ∙ c.loop-rest.invariant

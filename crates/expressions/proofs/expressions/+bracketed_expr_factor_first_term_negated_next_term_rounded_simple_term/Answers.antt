@@ -87,13 +87,13 @@ expr-returns-in_err-left t c =
     let x = err_from_is_err_and c.from_residual.result c.from_residual.ensures.1 in
     rw (x.1, x.2) (record { less = tt; is = expr_refused c.args.depth c.args.parser.now c.simple.new.parser c.args.table.now c.simple.new.table c.in_err-left.field-0.0 c.in_err-left.ensures.is })
 
-pub expr-returns-in_err-advance : goal.expr-returns-in_err-advance
-expr-returns-in_err-advance t c =
+pub expr-returns-in_err-advance-in-Some : goal.expr-returns-in_err-advance-in-Some
+expr-returns-in_err-advance-in-Some t c =
     let x = err_from_is_err_and c.from_residual-in_err-advance.result c.from_residual-in_err-advance.ensures.1 in
     rw (x.1, x.2) (record { less = tt; is = λ L mk. chain_stop (expr_opens c.args.depth c.in_ok-left.left c.args.parser.now c.simple.new.parser c.args.table.now c.simple.new.table c.in_ok-left.ensures.is L mk) (operator_broken relations c.args.depth c.requires.1 c.in_ok-left.left c.simple.new.parser c.simple.new.table c.in-Some.op (sym c.in-Some.ensures) L mk c.in_err-advance.ensures) })
 
-pub expr-returns-in_err-right : goal.expr-returns-in_err-right
-expr-returns-in_err-right t c =
+pub expr-returns-in_err-right-in-Some : goal.expr-returns-in_err-right-in-Some
+expr-returns-in_err-right-in-Some t c =
     let x = err_from_is_err_and c.from_residual-in_err-right.result c.from_residual-in_err-right.ensures.1 in
     rw (x.1, x.2) (record { less = tt; is = λ L mk. chain_stop (expr_opens c.args.depth c.in_ok-left.left c.args.parser.now c.simple.new.parser c.args.table.now c.simple.new.table c.in_ok-left.ensures.is L mk) (operand_refused relations c.args.depth c.requires.1 c.in_ok-left.left c.simple.new.parser c.simple.new.table c.in-Some.op (sym c.in-Some.ensures) L mk c.in_ok-advance.ensures c.in_err-right.ensures.is) })
 
@@ -104,8 +104,8 @@ expr-returns-in-None t c =
       is = expr_alone c.args.depth c.in_ok-left.left c.args.parser.now c.simple.new.parser c.args.table.now c.simple.new.table c.in_ok-left.ensures.is (sym c.in-None.ensures);
     }
 
-pub expr-returns-in_ok-right : goal.expr-returns-in_ok-right
-expr-returns-in_ok-right t c =
+pub expr-returns-in_ok-right-in-Some : goal.expr-returns-in_ok-right-in-Some
+expr-returns-in_ok-right-in-Some t c =
     let f = c.in_ok-left.ensures in
     let a = c.in_ok-advance.ensures in
     let b = c.in_ok-right.ensures in

@@ -89,13 +89,13 @@ expr-returns-in_err-left t c =
 
 pub expr-returns-in_err-advance-in-Some : goal.expr-returns-in_err-advance-in-Some
 expr-returns-in_err-advance-in-Some t c =
-    let x = err_from_is_err_and c.from_residual-in_err-advance.result c.from_residual-in_err-advance.ensures.1 in
-    rw (x.1, x.2) (record { less = tt; is = λ L mk. chain_stop (expr_opens c.args.depth c.in_ok-left.left c.args.parser.now c.simple.new.parser c.args.table.now c.simple.new.table c.in_ok-left.ensures.is L mk) (operator_broken relations c.args.depth c.requires.1 c.in_ok-left.left c.simple.new.parser c.simple.new.table c.in-Some.op (sym c.in-Some.ensures) L mk c.in_err-advance.ensures) })
+    let x = err_from_is_err_and c.from_residual-in_err-advance-in-Some.result c.from_residual-in_err-advance-in-Some.ensures.1 in
+    rw (x.1, x.2) (record { less = tt; is = λ L mk. chain_stop (expr_opens c.args.depth c.in_ok-left.left c.args.parser.now c.simple.new.parser c.args.table.now c.simple.new.table c.in_ok-left.ensures.is L mk) (operator_broken relations c.args.depth c.requires.1 c.in_ok-left.left c.simple.new.parser c.simple.new.table c.in-Some.op (sym c.in-Some.ensures) L mk c.in_err-advance-in-Some.ensures) })
 
 pub expr-returns-in_err-right-in-Some : goal.expr-returns-in_err-right-in-Some
 expr-returns-in_err-right-in-Some t c =
-    let x = err_from_is_err_and c.from_residual-in_err-right.result c.from_residual-in_err-right.ensures.1 in
-    rw (x.1, x.2) (record { less = tt; is = λ L mk. chain_stop (expr_opens c.args.depth c.in_ok-left.left c.args.parser.now c.simple.new.parser c.args.table.now c.simple.new.table c.in_ok-left.ensures.is L mk) (operand_refused relations c.args.depth c.requires.1 c.in_ok-left.left c.simple.new.parser c.simple.new.table c.in-Some.op (sym c.in-Some.ensures) L mk c.in_ok-advance.ensures c.in_err-right.ensures.is) })
+    let x = err_from_is_err_and c.from_residual-in_err-right-in-Some.result c.from_residual-in_err-right-in-Some.ensures.1 in
+    rw (x.1, x.2) (record { less = tt; is = λ L mk. chain_stop (expr_opens c.args.depth c.in_ok-left.left c.args.parser.now c.simple.new.parser c.args.table.now c.simple.new.table c.in_ok-left.ensures.is L mk) (operand_refused relations c.args.depth c.requires.1 c.in_ok-left.left c.simple.new.parser c.simple.new.table c.in-Some.op (sym c.in-Some.ensures) L mk c.in_ok-advance-in-Some.ensures c.in_err-right-in-Some.ensures.is) })
 
 pub expr-returns-in-None : goal.expr-returns-in-None
 expr-returns-in-None t c =
@@ -107,13 +107,13 @@ expr-returns-in-None t c =
 pub expr-returns-in_ok-right-in-Some : goal.expr-returns-in_ok-right-in-Some
 expr-returns-in_ok-right-in-Some t c =
     let f = c.in_ok-left.ensures in
-    let a = c.in_ok-advance.ensures in
-    let b = c.in_ok-right.ensures in
+    let a = c.in_ok-advance-in-Some.ensures in
+    let b = c.in_ok-right-in-Some.ensures in
     let l = c.emit.ensures in
     let same = ap (λ f. length f.tokens) l.same in
     record {
       less = (l.ready b.less.0 (omega (arith, f.less.0.room, b.less.1, b.less.2, same, l.count, a.one, a.count)), omega (arith, f.less.1, b.less.1, same, a.one), omega (arith, f.less.2, b.less.2, same, l.count, a.one, a.count));
-      is = λ L mk. chain (expr_opens c.args.depth c.in_ok-left.left c.args.parser.now c.simple.new.parser c.args.table.now c.simple.new.table c.in_ok-left.ensures.is L mk) (operated relations c.args.depth c.requires.1 c.in_ok-left.left c.simple.new.parser c.simple.new.table c.in-Some.op (sym c.in-Some.ensures) L mk a b.is (subst (λ o. Listed c.simple-in-Some.new.parser c.simple-in-Some.new.table (Bin c.in_ok-left.left o c.in_ok-right.right) c.simple.new.parser.place c.emit.result c.emit.new.self c.emit.new.table) c.operator.ensures l));
+      is = λ L mk. chain (expr_opens c.args.depth c.in_ok-left.left c.args.parser.now c.simple.new.parser c.args.table.now c.simple.new.table c.in_ok-left.ensures.is L mk) (operated relations c.args.depth c.requires.1 c.in_ok-left.left c.simple.new.parser c.simple.new.table c.in-Some.op (sym c.in-Some.ensures) L mk a b.is (subst (λ o. Listed c.simple-in-Some.new.parser c.simple-in-Some.new.table (Bin c.in_ok-left.left o c.in_ok-right-in-Some.right) c.simple.new.parser.place c.emit.result c.emit.new.self c.emit.new.table) c.operator.ensures l));
     }
 
 pub first_term-returns-in_err-part : goal.first_term-returns-in_err-part

@@ -109,7 +109,7 @@ cmds-returns-in_err-next t c =
 pub cmds-loop-place-preserved : goal.cmds-loop-place-preserved
 cmds-loop-place-preserved t c =
     let v = c.in_ok-next.ensures in
-    one_more c.args.depth c.in_ok-all.all c.loop-place.all c.in_ok-next.next c.emit_all.result c.cmd.new.parser c.loop-place.parser c.advance.new.self c.cmd-in-loop-place.new.parser c.emit_all.new.self c.cmd.new.table c.loop-place.table c.cmd-in-loop-place.new.table c.emit_all.new.table c.requires.1.0 c.loop-place.invariant (sym c.loop-place-test.ensures) c.in_ok-advance.ensures v.less v.is c.emit_all.ensures
+    one_more c.args.depth c.in_ok-all.all c.loop-place.all c.in_ok-next.next c.emit-all.result c.cmd.new.parser c.loop-place.parser c.advance.new.self c.cmd-in-loop-place.new.parser c.emit-all.new.self c.cmd.new.table c.loop-place.table c.cmd-in-loop-place.new.table c.emit-all.new.table c.requires.1.0 c.loop-place.invariant (sym c.loop-place-test.ensures) c.in_ok-advance.ensures v.less v.is c.emit-all.ensures
 
 pub cmds-returns-in_err-expect : goal.cmds-returns-in_err-expect
 cmds-returns-in_err-expect t c =

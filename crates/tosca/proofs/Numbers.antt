@@ -1,6 +1,6 @@
 -- The laws of the arithmetic. Assumes nothing.
-use Rattle.std.proofs.Common.{◌≡◌, ℕ, zero, suc, ◌+◌, ◌*◌, ◌/◌, ◌%◌, ◌^◌, ◌<◌, ◌≤◌, Bool, true, false, cond, not, ◌&&◌, ◌||◌, eqb, ltb, ◌⊎◌, ℤ, pos, negsuc, ◌+ℤ◌, ◌-ℤ◌, ◌*ℤ◌, neg_ℤ, nat_abs, ◌≤ℤ◌, ◌<ℤ◌, Ok, Err, Result, sym, refl, ap, ◌∙◌, subst, inl, inr, mod-lt, div-add-mod', zero-mul, mul_left_comm, arith, le-ltb, lt-ltb, eqb-true}
-use lib.IntN.{pos-*ℤ-negsuc, negsuc-*ℤ-pos, negsuc-*ℤ-negsuc, zero-*ℤ}
+use Rattle.std.proofs.Common.{◌≡◌, ℕ, zero, suc, ◌+◌, ◌*◌, ◌/◌, ◌%◌, ◌^◌, ◌<◌, ◌≤◌, Bool, true, false, cond, not, ◌&&◌, ◌||◌, eqb, ◌⊎◌, ℤ, pos, negsuc, ◌+ℤ◌, ◌-ℤ◌, ◌*ℤ◌, neg_ℤ, nat_abs, ◌≤ℤ◌, ◌<ℤ◌, Ok, Err, Result, sym, refl, ap, ◌∙◌, subst, inl, inr, mod-lt, div-add-mod', zero-mul, mul_left_comm, arith, le-ltb, lt-ltb, eqb-true}
+use lib.IntN.{pos-*ℤ-negsuc, negsuc-*ℤ-pos, negsuc-*ℤ-negsuc}
 use lib.Signed.{lt_z, quot_z}
 use borrow.Author.Tests.{eqb-false, clash}
 use Rattle.std.proofs.lemmas.Int.{ints}
@@ -11,7 +11,7 @@ use Rattle.tosca.specs.declared.operators.Binary.TheVariants.{Add, Subtract, Mul
 use Rattle.tosca.specs.declared.operators.Cause.{Cause}
 use Rattle.tosca.specs.declared.operators.Cause.TheVariants.{Range, ZeroDivisor}
 use Rattle.tosca.specs.Arithmetic.{in_range, ranged, is_zero, bit, signed, nearest, unary, binary}
-use Rattle.tosca.specs.ArithmeticLaws.{negative, Divided, remainder, Divides, Rounded, Rounds, Limited, Limits, Kept, Zeros, tests, Bit, Tests, Worked}
+use Rattle.tosca.specs.ArithmeticLaws.{negative, Divides, Rounds, Limits, Kept, Zeros, tests, Bit, Tests, Worked}
 
 -- a size with the sign of a
 abbrev pub like : ℤ → ℕ → ℤ

@@ -1,6 +1,6 @@
 -- The one arithmetic: what an operator gives, a number of the integer range or a cause why there is none.
 -- Truth values are numbers here: F is 0, T is 1, and `not`, `and`, `or` take any number but 0 as T.
-use Rattle.std.specs.Prelude.{ℕ, ◌+◌, ◌*◌, ◌/◌, ◌^◌, Bool, true, false, cond, not, ◌&&◌, ◌||◌, ℤ, pos, negsuc, ◌+ℤ◌, ◌-ℤ◌, ◌*ℤ◌, neg_ℤ, Ok, Err, Result, ◌==◌, int_div, int_lt, nat_lt, unsigned_abs}
+use Rattle.std.specs.Prelude.{ℕ, ◌+◌, ◌*◌, ◌/◌, ◌^◌, Bool, cond, not, ◌&&◌, ◌||◌, ℤ, pos, negsuc, ◌+ℤ◌, ◌-ℤ◌, ◌*ℤ◌, neg_ℤ, Ok, Err, Result, ◌==◌, int_div, int_lt, nat_lt, unsigned_abs}
 use Rattle.tosca.specs.declared.operators.Unary.{Unary}
 use Rattle.tosca.specs.declared.operators.Unary.TheVariants.{Negate, Not}
 use Rattle.tosca.specs.declared.operators.Binary.{Binary}

@@ -1,5 +1,5 @@
 -- What the arithmetic amounts to, in the terms of the integers.
-use Rattle.std.specs.Prelude.{◌≡◌, ℕ, ◌*◌, ◌<◌, ◌≤◌, Bool, true, false, ◌⊎◌, ℤ, pos, negsuc, ◌+ℤ◌, ◌-ℤ◌, ◌*ℤ◌, ◌≤ℤ◌, ◌<ℤ◌, Ok, Err, Result, ◌≢◌, int_div, int_lt, unsigned_abs}
+use Rattle.std.specs.Prelude.{◌≡◌, ◌*◌, ◌<◌, ◌≤◌, Bool, true, false, ◌⊎◌, ℤ, pos, negsuc, ◌+ℤ◌, ◌-ℤ◌, ◌*ℤ◌, ◌≤ℤ◌, ◌<ℤ◌, Ok, Err, Result, ◌≢◌, int_div, int_lt, unsigned_abs}
 use Rattle.tosca.specs.declared.operators.Unary.{Unary}
 use Rattle.tosca.specs.declared.operators.Unary.TheVariants.{Negate, Not}
 use Rattle.tosca.specs.declared.operators.Binary.{Binary}

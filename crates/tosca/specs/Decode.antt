@@ -1,6 +1,6 @@
 -- The tree that a node table stands for, each node labelled with its number.
 -- A part that does not stand earlier is taken for a leaf, so that every table has a tree; an opened table has no such part.
-use Rattle.std.specs.Prelude.{ℕ, zero, suc, ◌-◌, Bool, true, false, cond, List, [], ◌∷◌, length, pos, Some, None, Option, nat_lt, slice_index_or}
+use Rattle.std.specs.Prelude.{ℕ, zero, suc, ◌-◌, cond, List, [], ◌∷◌, length, pos, Some, None, Option, nat_lt, slice_index_or}
 use Rattle.tosca.specs.declared.operators.Value.TheVariants.{Number}
 use Rattle.tosca.specs.declared.table.Entry.{Entry}
 use Rattle.tosca.specs.declared.table.Node.{Node}

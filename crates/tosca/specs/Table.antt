@@ -1,5 +1,5 @@
 -- The node table's format: what each entry of numbers says, and which numbers say it.
-use Rattle.std.specs.Prelude.{ℕ, Bool, true, false, cond, ◌&&◌, ◌||◌, List, ℤ, pos, negsuc, Some, None, Option, ◌==◌}
+use Rattle.std.specs.Prelude.{ℕ, true, false, cond, ℤ, pos, negsuc, Some, None, Option, ◌==◌}
 use Rattle.std.specs.Option.{option_map}
 use Rattle.tosca.specs.declared.operators.SimpleType.{SimpleType}
 use Rattle.tosca.specs.declared.operators.SimpleType.TheVariants.{Integer, Boolean}
@@ -12,7 +12,7 @@ use Rattle.tosca.specs.declared.operators.Binary.TheVariants.{Add, Subtract, Mul
 use Rattle.tosca.specs.declared.table.Entry.{Entry}
 use Rattle.tosca.specs.declared.table.Node.{Node}
 use Rattle.tosca.specs.declared.table.Node.TheVariants.{Decl, Const, Var, Uny, Bin, Skip, Assign, Seq, Choice, Loop, Input, Output, Program}
-use Rattle.tosca.specs.Arithmetic.{bit, is_zero}
+use Rattle.tosca.specs.Arithmetic.{bit}
 
 -- an entry that is no node
 abbrev pub blank : Entry

@@ -1,5 +1,5 @@
 -- The laws of the format, and code that is written and mounted.
-use Rattle.std.proofs.Common.{◌≡◌, ℕ, ◌≤◌, Bool, true, cond, List, [], ◌∷◌, ◌++◌, map, length, take, is_some, Some, Option, unwrap_or, refl, ap, ◌∙◌, arith}
+use Rattle.std.proofs.Common.{◌≡◌, ℕ, ◌≤◌, Bool, true, cond, List, [], ◌∷◌, map, length, take, is_some, Some, Option, unwrap_or, refl, ap, ◌∙◌, arith}
 use Rattle.std.proofs.lemmas.List.{take_at, length-map, length-append}
 use Rattle.std.proofs.lemmas.Bool.{and_from, le-leb, cond-true}
 use Rattle.tosca.specs.declared.operators.Unary.TheVariants.{Negate, Not}
@@ -10,10 +10,9 @@ use Rattle.aida.specs.declared.instructions.Instruction.TheVariants.{LoadConst, 
 use Rattle.aida.specs.declared.instructions.Coded.{Coded}
 use Rattle.aida.specs.Templates.{coded}
 use Rattle.aida.specs.TemplateLaws.{all_addressed}
-use Rattle.code.specs.declared.table.CodeEntry.{CodeEntry}
 use Rattle.code.specs.CodeTable.{entry_for, code_entry, coded_of}
-use Rattle.code.specs.Questions.{blank_coded, known, are_known, said, said_by_all, are_within, counted, mounting, mounts, refused}
-use Rattle.code.specs.CodeLaws.{Faithful, written, Remounts, AddressedMounts, Worked}
+use Rattle.code.specs.Questions.{blank_coded, known, are_known, said_by_all, are_within, counted, mounts, refused}
+use Rattle.code.specs.CodeLaws.{Faithful, written, AddressedMounts, Worked}
 
 binary_said : (o : Binary) (c n : ℕ) → coded_of (entry_for (BinaryOp o c) n) ≡ Some (coded n (BinaryOp o c))
 binary_said Add c n = refl

@@ -1,5 +1,5 @@
 -- The table's format loses nothing, and code whose targets and cells exist mounts as it is.
-use Rattle.std.specs.Prelude.{◌≡◌, ℕ, ◌≤◌, true, List, [], ◌∷◌, ◌++◌, map, length, take, pos, Some, None}
+use Rattle.std.specs.Prelude.{◌≡◌, ◌≤◌, true, List, [], ◌∷◌, ◌++◌, map, length, take, pos, Some, None}
 use Rattle.tosca.specs.declared.operators.Binary.TheVariants.{Subtract}
 use Rattle.aida.specs.declared.instructions.Instruction.TheVariants.{LoadConst, LoadVar, Store, BinaryOp}
 use Rattle.aida.specs.declared.instructions.Coded.{Coded}

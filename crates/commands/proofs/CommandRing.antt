@@ -5,10 +5,10 @@ use Rattle.tosca.specs.declared.table.Node.{Node}
 use Rattle.tosca.specs.declared.table.Node.TheVariants.{Choice, Loop, Seq, Skip}
 use Rattle.grammar.specs.declared.symbols.Mark.{Mark}
 use Rattle.grammar.specs.declared.symbols.Mark.TheVariants.{Then, Do, Semicolon, End}
-use Rattle.grammar.specs.declared.symbols.Start.TheVariants.{Begin, If, While, Read}
+use Rattle.grammar.specs.declared.symbols.Start.TheVariants.{Begin, If, While}
 use Rattle.grammar.specs.Tokens.{Tok, name, lit, op, pre, start, else', unused, ty, mark, is_else, is_cmd}
 use Rattle.grammar.specs.Building.{a_choice, a_loop, a_seq, a_skip}
-use Rattle.grammar.specs.Automaton.{Sym, expr, cmd, cmds, elses, is, does, leave, marks, step, at_mark, at_cmd, Move, stuck, go, after}
+use Rattle.grammar.specs.Automaton.{Sym, expr, cmd, cmds, elses, is, does, leave, marks, step, at_mark, at_cmd, Move, stuck, go}
 use Rattle.grammar.specs.Listing.{Listing, list}
 use Rattle.grammar.specs.Limits.{few}
 use Rattle.lexer.specs.declared.token.Refusal.{Refusal}

@@ -8,7 +8,7 @@ use Rattle.grammar.specs.declared.symbols.Start.TheVariants as begins
 use Rattle.grammar.specs.declared.symbols.Start.TheVariants.{Begin}
 use Rattle.grammar.specs.Tokens.{Tok, name, lit, op, pre, start, else', unused, ty, mark}
 use Rattle.grammar.specs.Building.{Named, typed, declares}
-use Rattle.grammar.specs.Automaton.{Sym, is, does, text, vars, decls, a_name, names, type, body, marks, step, at_begin, at_type, Move, stuck, go}
+use Rattle.grammar.specs.Automaton.{Sym, is, vars, decls, a_name, names, type, body, marks, step, at_begin, at_type, Move, stuck, go}
 use Rattle.grammar.specs.Listing.{Listing, listing, list, laid}
 use Rattle.lexer.specs.declared.token.Refusal.{Refusal}
 use Rattle.parser.specs.declared.parser.Parser.{Parser}

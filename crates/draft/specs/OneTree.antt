@@ -1,8 +1,8 @@
 -- A table and the tree that it lists: each node of the tree is the entry of its number, and each entry stands in the tree.
-use Rattle.std.specs.Prelude.{◌≡◌, ℕ, suc, ◌<◌, List, length, Some, None, Option, slice_index_or}
+use Rattle.std.specs.Prelude.{◌≡◌, ℕ, suc, ◌<◌, List, length, Some, Option, slice_index_or}
 use Rattle.tosca.specs.declared.table.Entry.{Entry}
 use Rattle.tosca.specs.declared.table.Node.{Node}
-use Rattle.tosca.specs.declared.table.Node.TheVariants.{Decl, Const, Var, Uny, Bin, Skip, Assign, Seq, Choice, Loop, Input, Output, Program}
+use Rattle.tosca.specs.declared.table.Node.TheVariants.{Const, Var, Uny, Bin, Skip, Assign, Seq, Choice, Loop, Input, Output, Program}
 use Rattle.tosca.specs.Table.{blank, node}
 use Rattle.tosca.specs.Trees.{Expr, const, var, uny, bin, Cmd, skip, assign, seq, choice, loop, input, output}
 use Rattle.tosca.specs.Trees as tree

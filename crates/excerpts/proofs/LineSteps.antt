@@ -1,6 +1,6 @@
 -- One byte more or less: the steps of the line feeds before a place, and of a line's start and end.
-use Rattle.std.proofs.Common.{◌≡◌, ℕ, ◌+◌, ◌-◌, ◌<◌, ◌≤◌, not, List, length, get_or, take, drop, count_by, ap, arith, eq-eqb, ne_eqb}
-use Rattle.std.specs.List.{prefix_len, suffix_len}
+use Rattle.std.proofs.Common.{◌≡◌, ℕ, ◌+◌, ◌-◌, ◌<◌, ◌≤◌, not, List, length, get_or, take, count_by, ap, arith, eq-eqb, ne_eqb}
+use Rattle.std.specs.List.{suffix_len}
 use Rattle.std.proofs.lemmas.List.Sums.{count_by_more_yes, count_by_more_no, prefix_len-drop_yes, prefix_len-drop_no, prefix_len-drop_all, suffix_len-take_yes, suffix_len-take_no}
 use Rattle.excerpts.specs.Lines.{feed, in_line, line_end}
 

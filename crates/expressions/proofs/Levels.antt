@@ -1,27 +1,25 @@
 -- Operands of one precedence: what the loops of term and simple, and expr, do.
-use Rattle.std.proofs.Common.{◌≡◌, ℕ, suc, ◌+◌, ◌*◌, ◌<◌, ◌≤◌, Bool, true, false, cond, List, [], ◌∷◌, ◌++◌, Ok, Err, sym, refl, ap, ◌∙◌, subst, arith}
+use Rattle.std.proofs.Common.{◌≡◌, ℕ, ◌≤◌, true, cond, List, [], ◌∷◌, Ok, sym, refl, ap, ◌∙◌, subst, arith}
 use Rattle.tosca.specs.declared.operators.Binary.{Binary}
 use Rattle.tosca.specs.declared.table.Entry.{Entry}
 use Rattle.tosca.specs.declared.table.Node.TheVariants.{Bin}
 use Rattle.grammar.specs.declared.symbols.Multiplying.{Multiplying}
 use Rattle.grammar.specs.declared.symbols.Adding.{Adding}
 use Rattle.grammar.specs.declared.symbols.Relation.{Relation}
-use Rattle.grammar.specs.declared.symbols.Operator.TheVariants.{Mul, Add, Rel}
-use Rattle.grammar.specs.Tokens.{Tok, name, lit, op, pre, start, else', unused, ty, mark, Item, at, Seen, no, yes, pick, as_mul, as_add, as_rel}
+use Rattle.grammar.specs.Tokens.{Tok, name, lit, op, pre, start, else', unused, ty, mark, at, Seen, no, yes, pick, as_mul, as_add, as_rel}
 use Rattle.grammar.specs.Building.{Act, a_bin, mul_op, add_op, rel_op}
-use Rattle.grammar.specs.Automaton.{Sym, expr, rels, simple, simples, term, terms, factor, does, marks, step, go, after}
-use Rattle.grammar.specs.Listing.{Listing, listing, list}
-use Rattle.grammar.specs.Limits.{few, limits, Ending}
+use Rattle.grammar.specs.Automaton.{Sym, rels, simple, simples, term, terms, factor, does, marks, step, go, after}
+use Rattle.grammar.specs.Listing.{Listing, list}
+use Rattle.grammar.specs.Limits.{few, limits}
 use Rattle.lexer.specs.declared.token.Refusal.{Refusal}
 use Rattle.parser.specs.declared.parser.Parser.{Parser}
 use Rattle.lexer.specs.Lexemes.{meant}
 use Rattle.lexer.specs.Scan.{is_stop, over, limited, scan}
 use Rattle.lexer.specs.Names.{learns}
-use Rattle.parser.specs.Feeds.{Feed, feed, known_of, ahead, next, unread, Ready}
-use Rattle.parser.specs.Advancing.{Read, Broken, Listed, broken}
-use Rattle.parser.specs.Parsing.{reading, Goes, Stops, Takes, Parsed}
-use Rattle.parser.proofs.Chains.{chain, chain_stop, above, above_stop, moves, from_feed, from_count, stop_feed, stop_count, reads, breaks, lists}
-use Rattle.parser.proofs.Loops.{Looped}
+use Rattle.parser.specs.Feeds.{Feed, feed, known_of, ahead, next}
+use Rattle.parser.specs.Advancing.{Read, Broken, Listed}
+use Rattle.parser.specs.Parsing.{reading, Goes, Stops, Parsed}
+use Rattle.parser.proofs.Chains.{chain, chain_stop, above, above_stop, moves, from_feed, from_count, stop_feed, reads, breaks, lists}
 
 -- the next token is read
 pub read_token : {J K : List Sym} {U : List ℕ} {T : List Entry} {p q : Parser} {t : Tok} → Read p t q → ((s : Listing) → step list J s t p.place ≡ go K s) → marks K ≤ 32 → few t ≡ true → Goes J U p.count T (ahead p) K U q.count T (ahead q)

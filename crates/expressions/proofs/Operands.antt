@@ -1,5 +1,5 @@
 -- Each way through the functions of expressions.
-use Rattle.std.proofs.Common.{◌≡◌, ℕ, suc, ◌+◌, ◌*◌, ◌<◌, ◌≤◌, Bool, true, false, cond, List, [], ◌∷◌, ◌++◌, Ok, Err, Result, sym, refl, ap, ◌∙◌, subst, add-one, arith, lt-ltb}
+use Rattle.std.proofs.Common.{◌≡◌, ℕ, suc, ◌+◌, ◌<◌, ◌≤◌, true, false, cond, List, [], ◌∷◌, Ok, Err, Result, sym, refl, ap, ◌∙◌, subst, arith, lt-ltb}
 use Rattle.tosca.specs.declared.operators.Value.{Value}
 use Rattle.tosca.specs.declared.operators.Unary.TheVariants as unary
 use Rattle.tosca.specs.declared.operators.Binary.{Binary}
@@ -14,21 +14,21 @@ use Rattle.grammar.specs.declared.symbols.Mark.{Mark}
 use Rattle.grammar.specs.declared.symbols.Mark.TheVariants.{Close, Slash}
 use Rattle.grammar.specs.Tokens.{Tok, name, lit, op, pre, start, else', unused, ty, mark, Item, at, Seen, no, yes, as_add}
 use Rattle.grammar.specs.Building.{Act, a_bin, a_uny, a_const, a_var}
-use Rattle.grammar.specs.Automaton.{Sym, expr, rels, simple, simples, term, terms, factor, does, leave, is, is_open, marks, step, go, stuck, at_mark}
-use Rattle.grammar.specs.Listing.{Listing, listing, list}
+use Rattle.grammar.specs.Automaton.{Sym, expr, rels, simple, simples, term, terms, factor, does, leave, is, is_open, marks, step, go, stuck}
+use Rattle.grammar.specs.Listing.{Listing, list}
 use Rattle.grammar.specs.Limits.{few}
-use Rattle.lexer.specs.declared.token.Question.TheVariants.{Grammar, Depth}
+use Rattle.lexer.specs.declared.token.Question.TheVariants.{Depth}
 use Rattle.lexer.specs.declared.token.Refusal.{Refusal}
 use Rattle.lexer.specs.Lexemes.{meant, other}
 use Rattle.lexer.specs.Names.{tok}
 use Rattle.parser.specs.declared.parser.Parser.{Parser}
-use Rattle.parser.specs.Feeds.{Feed, more, known_of, ahead, next, unread, Ready}
+use Rattle.parser.specs.Feeds.{Feed, more, known_of, ahead, next, Ready}
 use Rattle.parser.specs.Advancing.{Read, Broken, Listed, Missed, another, cut, Closed, Nameless, many, refuses, is_mark, is_name, is_minus}
 use Rattle.parser.specs.Advancing as adv
-use Rattle.parser.specs.Parsing.{reading, Goes, Stops, Takes, Parsed}
-use Rattle.parser.proofs.Chains.{chain, chain_stop, above, above_stop, moves, from_feed, from_count, stop_feed, stop_count, takes, reads, stucks, too_deep, too_many, breaks, leaves, lists, doing}
+use Rattle.parser.specs.Parsing.{Goes, Stops, Takes, Parsed}
+use Rattle.parser.proofs.Chains.{chain, chain_stop, above, above_stop, moves, from_feed, from_count, stop_feed, takes, stucks, too_deep, too_many, breaks, leaves, lists, doing}
 use Rattle.parser.proofs.Loops.{Looped}
-use Rattle.expressions.proofs.Levels.{Level, read_token, read_broken, behind, alike, operated, operator_broken, operand_refused, passed, products, sums, relations}
+use Rattle.expressions.proofs.Levels.{Level, read_token, read_broken, behind, alike, operated, operator_broken, operand_refused, passed, relations}
 
 -- from the symbol S to the rest X of its operands, one of which is listed
 abbrev pub Opens : Sym → Sym → ℕ → Parser → List Entry → ℕ → Parser → List Entry → Type 0

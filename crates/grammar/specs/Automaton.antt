@@ -1,6 +1,6 @@
 -- The automaton that reads a text token by token: what it still expects is a list of symbols, its stack.
 -- It is generic in what it builds, and in a watch that is told of each token with its depth.
-use Rattle.std.specs.Prelude.{ℕ, suc, Bool, true, false, cond, List, [], ◌∷◌, ◌++◌}
+use Rattle.std.specs.Prelude.{ℕ, suc, cond, List, [], ◌∷◌, ◌++◌}
 use Rattle.tosca.specs.declared.operators.SimpleType.{SimpleType}
 use Rattle.tosca.specs.declared.operators.Unary.TheVariants as unary
 use Rattle.tosca.specs.declared.operators.Binary.TheVariants as binary
@@ -12,7 +12,7 @@ use Rattle.grammar.specs.declared.symbols.Mark.{Mark}
 use Rattle.grammar.specs.declared.symbols.Mark.TheVariants.{Program, Var, Semicolon, Comma, Colon, Becomes, Close, Slash, Then, Do, End, Period, Stop}
 use Rattle.grammar.specs.Tokens.{Tok, name, lit, op, pre, start, else', unused, ty, mark, Item, at, Seen, no, yes, pick, as_mul, as_add, as_rel, is_else, same}
 use Rattle.grammar.specs.Building.{mul_op, add_op, rel_op, Named, typed, declares}
-use Rattle.grammar.specs.Building.{Act, a_const, a_var, a_uny, a_bin, a_skip, a_assign, a_seq, a_choice, a_loop, a_input, a_output, a_decl, a_program}
+use Rattle.grammar.specs.Building.{Act, a_const, a_var, a_uny, a_bin, a_skip, a_assign, a_seq, a_choice, a_loop, a_input, a_output, a_program}
 
 pub data Sym : Type 0 where
   expr : Sym

@@ -8,7 +8,7 @@
 --   simple  [-] term {(+ | - | or) term}
 --   term    factor {(* | div | and) factor}
 --   factor  number | true | false | name | ( expr ) | not factor | round ( factor / factor )
-use Rattle.std.specs.Prelude.{◌≡◌, ℕ, suc, Bool, true, false, List, [], ◌∷◌, ◌++◌}
+use Rattle.std.specs.Prelude.{◌≡◌, ℕ, suc, false, List, [], ◌∷◌, ◌++◌}
 use Rattle.tosca.specs.declared.operators.SimpleType.{SimpleType}
 use Rattle.tosca.specs.declared.operators.Value.{Value}
 use Rattle.tosca.specs.declared.operators.Unary.TheVariants as unary

@@ -1,5 +1,5 @@
 -- The token at the front of a text, after blanks and comments.
-use Rattle.std.specs.Prelude.{ℕ, ◌+◌, Bool, true, false, cond, ◌&&◌, ◌||◌, List, [], ◌∷◌, take, drop, Some, None, Ok, Err, Option, Result, ◌==◌}
+use Rattle.std.specs.Prelude.{ℕ, ◌+◌, Bool, false, cond, ◌&&◌, List, [], ◌∷◌, take, drop, Some, None, Ok, Err, Option, Result, ◌==◌}
 use Rattle.grammar.specs.declared.symbols.Mark.TheVariants as m
 use Rattle.grammar.specs.Tokens.{Tok, op, pre, start, else', unused, ty, mark}
 use Rattle.grammar.specs.Tokens as g

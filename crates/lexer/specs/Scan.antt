@@ -1,5 +1,5 @@
 -- The tokens of a text, one after another.
-use Rattle.std.specs.Prelude.{◌≡◌, ℕ, zero, suc, ◌<◌, Bool, true, false, cond, List, [], ◌∷◌, length, nat_le}
+use Rattle.std.specs.Prelude.{◌≡◌, ℕ, zero, suc, ◌<◌, Bool, false, cond, List, length, nat_le}
 use Rattle.grammar.specs.Limits.{is_stop as is_stop_tok}
 use Rattle.lexer.specs.Spelling.{value}
 use Rattle.lexer.specs.Lexemes.{Raw, name, number, other, Lexed, lexeme, none, lex}

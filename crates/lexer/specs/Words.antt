@@ -1,5 +1,5 @@
 -- The words that are never names: the 35 word symbols of ISO 7185, and integer, boolean, true, false, read, write, round.
-use Rattle.std.specs.Prelude.{ℕ, Bool, true, false, cond, List, [], ◌∷◌, Some, None, codes, Option, ◌==◌}
+use Rattle.std.specs.Prelude.{ℕ, true, false, cond, List, [], ◌∷◌, Some, None, codes, Option, ◌==◌}
 use Rattle.tosca.specs.declared.operators.SimpleType.TheVariants.{Integer, Boolean}
 use Rattle.tosca.specs.declared.operators.Value.TheVariants.{Truth}
 use Rattle.grammar.specs.declared.symbols.Multiplying.TheVariants.{Times, Div, And}
@@ -8,7 +8,7 @@ use Rattle.grammar.specs.declared.symbols.Relation.TheVariants.{Equal, Less, Gre
 use Rattle.grammar.specs.declared.symbols.Operator.TheVariants.{Mul, Add, Rel}
 use Rattle.grammar.specs.declared.symbols.Prefix.TheVariants.{Open, Not, Round}
 use Rattle.grammar.specs.declared.symbols.Start.TheVariants.{Begin, If, While, Read, Write}
-use Rattle.grammar.specs.declared.symbols.Mark.TheVariants.{Program, Var, Semicolon, Comma, Colon, Becomes, Close, Slash, Then, Do, End, Period, Stop}
+use Rattle.grammar.specs.declared.symbols.Mark.TheVariants.{Program, Var, Semicolon, Comma, Colon, Close, Slash, Then, Do, End, Period}
 use Rattle.grammar.specs.Tokens.{Tok, lit, op, pre, start, else', unused, ty, mark}
 use Rattle.lexer.specs.Spelling.{same}
 

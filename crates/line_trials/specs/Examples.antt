@@ -1,5 +1,5 @@
 -- The numbers that bytes hold.
-use Rattle.std.specs.Prelude.{◌≡◌, ℕ, List, [], ◌∷◌, ℤ, pos, negsuc}
+use Rattle.std.specs.Prelude.{◌≡◌, ℕ, List, [], ◌∷◌, pos, negsuc}
 use Rattle.line.specs.Registers.{register, number_at}
 
 -- 100,000 and then -2: 00 01 86 A0 FF FF FF FE

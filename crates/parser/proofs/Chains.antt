@@ -1,19 +1,19 @@
 -- How what the parser's functions do joins up.
-use Rattle.std.proofs.Common.{◌≡◌, ℕ, suc, ◌+◌, ◌<◌, ◌≤◌, Bool, true, false, cond, ltb, leb, List, [], ◌∷◌, ◌++◌, length, set, sym, refl, ap, ◌∙◌, subst, arith, length-append, le-ltb, lt-ltb, le-leb, leb-false, leb-true}
+use Rattle.std.proofs.Common.{◌≡◌, ℕ, ◌+◌, ◌<◌, ◌≤◌, Bool, true, false, cond, ltb, leb, List, [], ◌∷◌, ◌++◌, length, set, sym, refl, ap, ◌∙◌, subst, arith, length-append, le-ltb, le-leb, leb-true}
 use Rattle.tosca.specs.declared.table.Entry.{Entry}
 use Rattle.tosca.specs.declared.table.Node.{Node}
 use Rattle.tosca.specs.Table.{entry}
 use Rattle.grammar.specs.Tokens.{Tok, name, Item, at}
 use Rattle.grammar.specs.Building.{Act}
-use Rattle.grammar.specs.Automaton.{Sym, does, leave, marks, run, step, Move, stuck, go, after}
+use Rattle.grammar.specs.Automaton.{Sym, does, leave, marks, run, step, stuck, go, after}
 use Rattle.grammar.specs.Listing.{Listing, listing, list, laid}
-use Rattle.grammar.specs.Limits.{Outcome, refused, limits, few, asking, Ending}
+use Rattle.grammar.specs.Limits.{refused, limits, few, Ending}
 use Rattle.lexer.specs.declared.token.Refusal.{Refusal}
 use Rattle.lexer.specs.declared.token.Question.TheVariants.{Grammar, Depth, NameCount}
 use Rattle.parser.specs.declared.parser.Parser.{Parser}
 use Rattle.parser.specs.Feeds.{Feed, more, ahead}
 use Rattle.parser.specs.Advancing.{refuses, broken, Listed}
-use Rattle.parser.specs.Parsing.{Holds, reading, refusal, Goes, Stops}
+use Rattle.parser.specs.Parsing.{Holds, reading, Goes, Stops}
 
 -- one after the other
 pub chain : {J K L : List Sym} {U W X : List ℕ} {c d e : ℕ} {T T' T'' : List Entry} {f g h : Feed} → Goes J U c T f K W d T' g → Goes K W d T' g L X e T'' h → Goes J U c T f L X e T'' h

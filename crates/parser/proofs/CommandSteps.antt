@@ -18,7 +18,6 @@ use Rattle.lexer.specs.Names.{Known, tok, learns}
 use Rattle.parser.specs.declared.parser.Parser.{Parser}
 use Rattle.parser.specs.Feeds.{Feed, more, feed, known_of, ahead, next}
 use Rattle.parser.specs.Advancing.{is_mark, is_name, plain, refuses, broken, Read, Broken, Missed, another, cut}
-use Rattle.parser.specs.Advancing as step
 use Rattle.parser.specs.Parsing.{reading, Goes, Stops}
 use Rattle.parser.proofs.Chains.{from_feed, from_count, stop_feed, moves, takes, reads, stucks, doing}
 

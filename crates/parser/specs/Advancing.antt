@@ -1,5 +1,5 @@
 -- What the parser's small steps do: reading one token, numbering a name, listing a node.
-use Rattle.std.specs.Prelude.{◌≡◌, ℕ, suc, ◌+◌, ◌<◌, ◌≤◌, Bool, true, false, cond, List, [], ◌∷◌, Some, None, Ok, Err, Option, Result, slice_set}
+use Rattle.std.specs.Prelude.{◌≡◌, ℕ, suc, ◌+◌, ◌<◌, ◌≤◌, Bool, true, false, cond, List, [], Some, None, Ok, Err, Option, Result, slice_set}
 use Rattle.tosca.specs.declared.table.Entry.{Entry}
 use Rattle.tosca.specs.declared.table.Node.{Node}
 use Rattle.tosca.specs.Table.{entry}
@@ -8,8 +8,8 @@ use Rattle.grammar.specs.declared.symbols.Operator.{Operator}
 use Rattle.grammar.specs.declared.symbols.Operator.TheVariants.{Mul, Add, Rel}
 use Rattle.grammar.specs.declared.symbols.Adding.TheVariants.{Plus, Minus, Or}
 use Rattle.grammar.specs.declared.symbols.Prefix.TheVariants.{Open, Not, Round}
-use Rattle.grammar.specs.Tokens.{Tok, name, lit, op, pre, start, else', unused, ty, mark, Item, at, Seen, no, yes, same}
-use Rattle.grammar.specs.Limits.{Ending, bad}
+use Rattle.grammar.specs.Tokens.{Tok, name, lit, op, pre, start, else', unused, ty, mark, at, Seen, no, yes, same}
+use Rattle.grammar.specs.Limits.{bad}
 use Rattle.lexer.specs.declared.token.Question.{Question}
 use Rattle.lexer.specs.declared.token.Question.TheVariants.{Grammar, Depth, NameCount}
 use Rattle.lexer.specs.declared.token.Refusal.{Refusal}

@@ -1,10 +1,10 @@
 -- What the parser's state means: the tokens that are unread, the next one first, and how they end.
-use Rattle.std.specs.Prelude.{◌≡◌, ℕ, ◌+◌, ◌*◌, ◌≤◌, Bool, true, false, cond, List, [], ◌∷◌, map, length, take}
+use Rattle.std.specs.Prelude.{◌≡◌, ℕ, ◌+◌, ◌*◌, ◌≤◌, List, [], ◌∷◌, length, take}
 use Rattle.std.specs.Borrow.{Bor}
-use Rattle.grammar.specs.Tokens.{Tok, Item, at}
+use Rattle.grammar.specs.Tokens.{Tok, Item}
 use Rattle.grammar.specs.Limits.{Ending}
 use Rattle.lexer.specs.Spelling.{lowered}
-use Rattle.lexer.specs.Lexemes.{Raw, meant}
+use Rattle.lexer.specs.Lexemes.{meant}
 use Rattle.lexer.specs.Scan.{Scan, follow, scan, limit, limited}
 use Rattle.lexer.specs.Names.{Known, known, tok, items, ends}
 use Rattle.parser.specs.declared.names.Names.{Names}

@@ -1,10 +1,7 @@
 -- What a function of the parser does, in every context: it takes what one symbol of the automaton stands for.
-use Rattle.std.specs.Prelude.{◌≡◌, ℕ, ◌+◌, ◌*◌, ◌<◌, ◌≤◌, List, [], ◌∷◌, ◌++◌, length, set, Ok, Err, Result}
+use Rattle.std.specs.Prelude.{◌≡◌, ℕ, ◌+◌, ◌*◌, ◌<◌, ◌≤◌, List, [], ◌∷◌, ◌++◌, length, Ok, Err, Result}
 use Rattle.tosca.specs.declared.table.Entry.{Entry}
-use Rattle.tosca.specs.declared.table.Node.{Node}
-use Rattle.tosca.specs.Table.{entry}
-use Rattle.grammar.specs.Tokens.{Item, at}
-use Rattle.grammar.specs.Automaton.{Sym, is, marks, run}
+use Rattle.grammar.specs.Automaton.{Sym, marks, run}
 use Rattle.grammar.specs.Listing.{Listing, listing, list, laid}
 use Rattle.grammar.specs.Limits.{Outcome, refused, limits}
 use Rattle.lexer.specs.declared.token.Refusal.{Refusal}

@@ -1,5 +1,5 @@
 -- The laws of reading follow from those of the grammar, of tokens and of the listing.
-use Rattle.std.proofs.Common.{◌≡◌, ℕ, suc, ◌+◌, ◌<◌, ◌≤◌, Bool, true, false, cond, ◌&&◌, eqb, leb, ◌⊎◌, List, [], ◌∷◌, ◌++◌, length, take, replicate, Ok, Err, Result, sym, refl, ap, ◌∙◌, subst, inl, inr, append_assoc, zero-add, arith, le-leb, leb-false, leb-true}
+use Rattle.std.proofs.Common.{◌≡◌, ℕ, suc, ◌+◌, ◌<◌, ◌≤◌, Bool, true, false, cond, ◌&&◌, eqb, leb, ◌⊎◌, List, [], ◌∷◌, ◌++◌, length, take, replicate, sym, refl, ap, ◌∙◌, subst, inl, inr, append_assoc, arith, le-leb, leb-false, leb-true}
 use lib.ListN.{length-replicate}
 use Rattle.tosca.specs.declared.table.Entry.{Entry}
 use Rattle.tosca.specs.Table.{blank}
@@ -9,7 +9,7 @@ use Rattle.grammar.specs.Tokens.{Tok, name, mark, Item, at}
 use Rattle.grammar.specs.declared.symbols.Mark.TheVariants.{Stop}
 use Rattle.grammar.specs.Building.{builds}
 use Rattle.grammar.specs.Grammar.{Deep, deep, Text, text_depths}
-use Rattle.grammar.specs.Automaton.{Sym, Move, stuck, go, step, settle, marks, after, run, text}
+use Rattle.grammar.specs.Automaton.{Sym, Move, stuck, go, step, marks, after, run, text}
 use Rattle.grammar.specs.Listing.{Listing, listing, list, laid, entries_of}
 use Rattle.grammar.specs.Bounded.{Fit}
 use Rattle.grammar.specs.Limits.{Ending, over, bad, Outcome, accepted, refused, unended, ending, few, asking, limits, reads, Within, Then, Completable, placed_from, Refused, five, six, seven, broken}
@@ -21,7 +21,6 @@ use Rattle.grammar.proofs.OpenNumbered.{reads_listed}
 use Rattle.lexer.specs.declared.token.Question.{Question}
 use Rattle.lexer.specs.declared.token.Question.TheVariants.{TextLength, NameLength, NumberSize, Grammar, Depth, NameCount, NodeCount}
 use Rattle.lexer.specs.declared.token.Question.TheVariants as q
-use Rattle.lexer.specs.declared.token.Refusal.{Refusal}
 use Rattle.lexer.specs.Lexemes.{number_of}
 use Rattle.lexer.specs.Scan.{Scan, more, scan, limited, Moderate, Fails}
 use Rattle.lexer.specs.Names.{Known, nothing, learns, items, ends}
@@ -30,7 +29,7 @@ use Rattle.lexer.specs.Completion.{Completed}
 use Rattle.lexer.proofs.Scanning.{Places, places, ends_limited, moderate_limited, limited_over, limited_fails, fails_which}
 use Rattle.lexer.proofs.Numbering.{name_law}
 use Rattle.lexer.proofs.Spelled.{completed, completed_end, completed_after}
-use Rattle.reader.specs.Reading.{reading, holding, outcome, Answer, count, no, answer, answered, table_after, Derived, Limited, Held}
+use Rattle.reader.specs.Reading.{reading, holding, outcome, count, no, answer, Derived, Limited, Held}
 use Rattle.reader.specs.Reasons.{tokens, Begins, Before, With, Reason, text_length, no_token, name_length, number_size, grammar, depth, name_count, node_count, Accepted}
 
 -- a completion in tokens is one in bytes

@@ -1,24 +1,22 @@
 -- Each way through the reader's functions.
-use Rattle.std.proofs.Common.{◌≡◌, ℕ, ◌<◌, ◌≤◌, Bool, true, false, cond, ◌&&◌, leb, List, [], ◌∷◌, length, replicate, Ok, Err, Result, sym, refl, ap, ◌∙◌, subst, arith}
+use Rattle.std.proofs.Common.{◌≡◌, ℕ, ◌<◌, ◌≤◌, Bool, cond, ◌&&◌, leb, List, [], ◌∷◌, length, replicate, Ok, Err, Result, sym, refl, ap, ◌∙◌, subst, arith}
 use lib.ListN.{length-replicate}
 use borrow.Author.Tests.{lt-leb}
 use Rattle.tosca.specs.declared.table.Entry.{Entry}
 use Rattle.tosca.specs.Table.{blank}
-use Rattle.tosca.specs.Trees as tree
 use Rattle.grammar.specs.Automaton.{text}
 use Rattle.grammar.specs.Listing.{Listing, listing, list, laid, entries_of}
-use Rattle.grammar.specs.Limits.{Outcome, accepted, refused, unended, reads}
-use Rattle.lexer.specs.declared.token.Question.{Question}
+use Rattle.grammar.specs.Limits.{Outcome, accepted, refused, reads}
 use Rattle.lexer.specs.declared.token.Refusal.{Refusal}
 use Rattle.lexer.specs.Lexemes.{number_of}
 use Rattle.lexer.specs.Scan.{scan, limited}
-use Rattle.lexer.specs.Names.{nothing, items, ends}
+use Rattle.lexer.specs.Names.{nothing, ends}
 use Rattle.parser.specs.Feeds.{Feed, feed}
 use Rattle.parser.specs.Advancing.{broken}
 use Rattle.parser.specs.Parsing as parsing
-use Rattle.reader.specs.Reading.{reading, holding, outcome, Answer, count, no, answer, answered, table_after, Held, Limited, Nodes}
+use Rattle.reader.specs.Reading.{holding, outcome, count, no, answer, answered, table_after, Nodes}
 use Rattle.reader.specs.Reasons.{tokens, Accepted, Explained, Complete}
-use Rattle.reader.proofs.Explaining.{reads_short, accepts, refuses, completes, refusal_of}
+use Rattle.reader.proofs.Explaining.{reads_short, accepts, refuses, completes}
 
 pub too_long : (cap : ℕ) (bs : List ℕ) → 16384 < length bs → outcome cap bs ≡ refused 1 0
 too_long cap bs h = ap (λ b. holding cap (length bs) (cond b (reads list (listing [] []) (tokens bs) (ends (limited (scan 0 bs)))) (refused 1 0))) (lt-leb (length bs) 16384 h)

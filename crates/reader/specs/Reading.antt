@@ -1,15 +1,14 @@
 -- What reading a text gives, by its questions in their order, and the table afterwards.
-use Rattle.std.specs.Prelude.{◌≡◌, ℕ, ◌≤◌, Bool, cond, ◌&&◌, List, [], length, replicate, Ok, Err, Result, nat_le}
+use Rattle.std.specs.Prelude.{◌≡◌, ℕ, ◌≤◌, cond, ◌&&◌, List, [], length, replicate, Ok, Err, Result, nat_le}
 use Rattle.tosca.specs.declared.table.Entry.{Entry}
 use Rattle.tosca.specs.Table.{blank}
 use Rattle.tosca.specs.Trees as tree
-use Rattle.grammar.specs.Tokens.{Item}
 use Rattle.grammar.specs.Grammar.{Text, text_depths}
 use Rattle.grammar.specs.Listing.{Listing, listing, list, laid, entries_of}
 use Rattle.grammar.specs.Limits.{Outcome, accepted, refused, unended, reads, over, Within}
 use Rattle.lexer.specs.declared.token.Refusal.{Refusal}
 use Rattle.lexer.specs.Lexemes.{number_of}
-use Rattle.lexer.specs.Scan.{Scan, scan, limited, Moderate}
+use Rattle.lexer.specs.Scan.{scan, limited, Moderate}
 use Rattle.lexer.specs.Names.{nothing, items, ends}
 
 -- question 1, then token by token 2 to 7

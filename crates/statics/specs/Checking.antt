@@ -1,10 +1,10 @@
 -- The questions that a routine is asked before it is translated, in their order, and the nodes at fault for each.
-use Rattle.std.specs.Prelude.{ℕ, Bool, true, false, cond, ◌||◌, List, [], ◌∷◌, Some, None, Ok, Err, Option, Result, ◌==◌, nat_lt}
+use Rattle.std.specs.Prelude.{ℕ, Bool, false, cond, ◌||◌, List, [], ◌∷◌, Some, None, Ok, Err, Option, Result, ◌==◌, nat_lt}
 use Rattle.tosca.specs.Trees.{Expr, Cmd, Decl, Program}
 use Rattle.statics.specs.declared.rules.Rule.{Rule}
 use Rattle.statics.specs.declared.rules.Rule.TheVariants.{DeclaredOnce, Declared, Typed, Set, Temporaries}
 use Rattle.statics.specs.declared.rules.Violation.{Violation}
-use Rattle.statics.specs.Choosing.{lowest, picked, chosen}
+use Rattle.statics.specs.Choosing.{lowest, chosen}
 use Rattle.statics.specs.Typing.{verdict, is_at_fault, ill_typed, undeclared_var, undeclared_target}
 use Rattle.statics.specs.Temporaries.{need}
 use Rattle.statics.specs.Setting.{no_vars, unset}

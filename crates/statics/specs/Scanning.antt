@@ -1,5 +1,5 @@
 -- The lowest node that two tests choose, found by going through the table once from its first entry.
-use Rattle.std.specs.Prelude.{ℕ, zero, suc, Bool, true, false, cond, List, Some, None, Option, slice_index_or}
+use Rattle.std.specs.Prelude.{ℕ, zero, suc, Bool, false, cond, List, Some, None, Option, slice_index_or}
 use Rattle.tosca.specs.declared.table.Entry.{Entry}
 use Rattle.tosca.specs.Table.{blank, node}
 use Rattle.tosca.specs.Trees.{Expr, Cmd}

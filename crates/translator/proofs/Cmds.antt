@@ -1,15 +1,14 @@
 -- Each kind of command: its parts can be emitted, and its code is what was emitted. Assumes nothing.
-use Rattle.std.proofs.Common.{◌≡◌, ℕ, suc, ◌+◌, ◌<◌, ◌≤◌, true, List, [], ◌∷◌, ◌++◌, length, get_or, set, Some, sym, refl, ap, ◌∙◌, subst, arith}
+use Rattle.std.proofs.Common.{◌≡◌, ℕ, suc, ◌+◌, ◌<◌, ◌≤◌, true, List, [], ◌∷◌, ◌++◌, get_or, set, Some, sym, refl, ap, ◌∙◌, subst, arith}
 use Rattle.tosca.specs.declared.table.Entry.{Entry}
 use Rattle.tosca.specs.declared.table.Node.TheVariants.{Skip, Assign, Seq, Choice, Loop, Input, Output}
 use Rattle.tosca.specs.Table.{blank, node}
-use Rattle.tosca.specs.Trees.{Expr, Cmd, skip, assign, seq, choice, loop, input, output}
+use Rattle.tosca.specs.Trees.{Cmd, assign, seq, choice, loop, input, output}
 use Rattle.tosca.specs.Types.{Types}
 use Rattle.tosca.specs.Decode.{expr_at, cmd_at}
 use Rattle.tosca.specs.Opens.{sort, is_expr, is_cmd}
 use Rattle.draft.specs.Forming.{is_formed}
 use Rattle.draft.proofs.Facts.{assign_fact, seq_fact, choice_fact, loop_fact, output_fact, cmd_at_skip, cmd_at_assign, cmd_at_seq, cmd_at_choice, cmd_at_loop, cmd_at_input, cmd_at_output}
-use Rattle.statics.specs.Temporaries.{need}
 use Rattle.aida.specs.declared.instructions.Instruction.{Instruction}
 use Rattle.aida.specs.declared.instructions.Instruction.TheVariants.{Store, Output as Send, Jump, Goto}
 use Rattle.aida.specs.Templates.{coded, expr_length, expr_code, cmd_length, input_by, cmd_code}

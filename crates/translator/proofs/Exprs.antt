@@ -1,12 +1,12 @@
 -- Each kind of expression: its parts can be emitted, and its code is what was emitted. Assumes nothing.
-use Rattle.std.proofs.Common.{◌≡◌, ℕ, suc, ◌+◌, ◌<◌, ◌≤◌, max, true, List, [], ◌∷◌, ◌++◌, length, get_or, ℤ, Some, sym, ap, ◌∙◌, subst, ap₂, arith}
+use Rattle.std.proofs.Common.{◌≡◌, ℕ, suc, ◌+◌, ◌<◌, ◌≤◌, true, List, [], ◌∷◌, get_or, ℤ, Some, sym, ap, ◌∙◌, subst, ap₂, arith}
 use Rattle.tosca.specs.declared.operators.Value.{Value}
 use Rattle.tosca.specs.declared.operators.Unary.{Unary}
 use Rattle.tosca.specs.declared.operators.Binary.{Binary}
 use Rattle.tosca.specs.declared.table.Entry.{Entry}
 use Rattle.tosca.specs.declared.table.Node.TheVariants.{Const, Var, Uny, Bin}
 use Rattle.tosca.specs.Table.{blank, node}
-use Rattle.tosca.specs.Trees.{Expr, const, var, uny, bin}
+use Rattle.tosca.specs.Trees.{Expr, uny, bin}
 use Rattle.tosca.specs.Decode.{expr_at}
 use Rattle.tosca.specs.Opens.{sort}
 use Rattle.draft.specs.Forming.{is_formed}

@@ -4,7 +4,6 @@ use lib.ListN.{length-replicate}
 use lib.Seq.{sets, sets-eq, length-sets}
 use Rattle.std.proofs.lemmas.List.{length-map, drop-replicate}
 use Rattle.std.proofs.lemmas.Bool.{false≢true, leb-true}
-use Rattle.tosca.specs.declared.table.Entry.{Entry}
 use Rattle.tosca.specs.Table.{blank, node}
 use Rattle.tosca.specs.Trees.{Cmd}
 use Rattle.tosca.specs.Types.{Types, type_in}

@@ -1,24 +1,22 @@
 -- What an answer of reading says of its outcome, and the entries of the draft that is opened after it.
-use Rattle.std.proofs.Common.{◌≡◌, ℕ, ◌-◌, ◌≤◌, List, ◌++◌, length, get_or, take, replicate, Ok, Err, Result, sym, refl, ap, ◌∙◌, arith}
+use Rattle.std.proofs.Common.{◌≡◌, ℕ, ◌-◌, ◌≤◌, List, ◌++◌, length, take, replicate, Ok, Err, sym, refl, ap, ◌∙◌, arith}
 use lib.ListN.{length-replicate}
 use Rattle.std.proofs.lemmas.List.{take_at, length-take-le}
 use Rattle.tosca.specs.declared.table.Entry.{Entry}
 use Rattle.tosca.specs.Table.{blank}
-use Rattle.tosca.specs.Decode.{program_of}
 use Rattle.tosca.specs.Opens.{opening, opened}
 use Rattle.grammar.specs.Listing.{Listing, laid}
 use Rattle.grammar.specs.Limits.{Outcome, accepted, refused, unended}
 use Rattle.lexer.specs.declared.token.Question.{Question}
 use Rattle.lexer.specs.declared.token.Question.TheVariants.{TextLength, Token, NameLength, NumberSize, Grammar, Depth, NameCount, NodeCount}
 use Rattle.lexer.specs.Lexemes.{number_of}
-use Rattle.reader.specs.Reading.{answer, count, no, table_after, outcome}
+use Rattle.reader.specs.Reading.{answer, count, no, table_after}
 use Rattle.reader.proofs.Explaining.{take_laid}
 use Rattle.draft.proofs.Padding.{opened_is}
-use Rattle.statics.specs.declared.rules.Violation.{Violation}
-use Rattle.statics.specs.Checking.{rule_number, checking}
+use Rattle.statics.specs.Checking.{rule_number}
 use Rattle.verdict.specs.declared.rejection.Rejection.{Rejection}
 use Rattle.verdict.specs.declared.rejection.Rejection.TheVariants.{Unread, Unsound}
-use Rattle.verdict.specs.Verdicts.{Verdict, said, checked, by_outcome, verdict_of, rejected_number, rejected_place, Judged}
+use Rattle.verdict.specs.Verdicts.{said, checked, by_outcome, verdict_of, rejected_number, rejected_place, Judged}
 
 number_some : (q : Question) → number_of q ≡ 0 → ⊥
 number_some TextLength e = omega arith

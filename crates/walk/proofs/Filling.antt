@@ -13,7 +13,7 @@ use Rattle.tosca.specs.Opens.{Sort, is_decl, is_expr, is_cmd, is_program, is_non
 use Rattle.draft.specs.Forming.{is_formed}
 use Rattle.draft.proofs.Facts.{sorts_apart, var_fact, uny_fact, bin_fact, expr_at_const, expr_at_var, expr_at_uny, expr_at_bin}
 use Rattle.statics.specs.Folding.{Algebra, fold}
-use Rattle.walk.specs.Walking.{IsExpr, if_expr, answer_at, filled_by, filled, answered, Ready}
+use Rattle.walk.specs.Walking.{IsExpr, if_expr, answer_at, filled_by, answered, Ready}
 
 module _ {A : Type 0} (f : Expr ℕ → A) (t : List Entry) where
   pub length_filled : (n : ℕ) (xs : List A) → length (filled_by f t n xs) ≡ length xs

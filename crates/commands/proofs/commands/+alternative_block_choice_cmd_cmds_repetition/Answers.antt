@@ -1,10 +1,9 @@
-use Rattle.std.proofs.Common.{sym, ap, subst, arith}
+use Rattle.std.proofs.Common.{sym, subst, arith}
 use Rattle.std.proofs.lemmas.Result.{err_from_is_err_and}
 use Rattle.tosca.specs.declared.table.Node.TheVariants.{Skip, Loop, Choice}
 use Rattle.grammar.specs.declared.symbols.Mark.TheVariants.{Then, Do, End}
 use Rattle.grammar.specs.declared.symbols.Start.TheVariants.{Begin, If, While}
 use Rattle.grammar.specs.Tokens.{start, else', mark}
-use Rattle.lexer.specs.Lexemes.{meant}
 use Rattle.parser.specs.Feeds.{known_of, next}
 use Rattle.parser.specs.Advancing.{Read}
 use Rattle.parser.proofs.CommandSteps as token

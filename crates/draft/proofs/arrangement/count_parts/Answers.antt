@@ -1,4 +1,4 @@
-use Rattle.std.proofs.Common.{◌+◌, sym, arith}
+use Rattle.std.proofs.Common.{arith}
 use Rattle.tosca.specs.Table.{node}
 use Rattle.tosca.specs.Opens.{parts}
 use Rattle.draft.proofs.Counting.{recount, uses_three}

@@ -1,4 +1,4 @@
-use Rattle.std.proofs.Common.{◌≡◌, length, take, count_by, sym, ap, ◌∙◌, arith}
+use Rattle.std.proofs.Common.{count_by, ap, ◌∙◌, arith}
 use Rattle.std.proofs.lemmas.List.{take_all}
 use Rattle.excerpts.specs.Lines.{feed}
 use Rattle.excerpts.proofs.LineSteps.{feed_more, other_more}

@@ -1,14 +1,13 @@
-use Rattle.std.proofs.Common.{◌≡◌, ◌+◌, ◌*◌, ◌<◌, ◌≤◌, length, sym, refl, ap, ◌∙◌, subst, arith, rules}
+use Rattle.std.proofs.Common.{length, sym, ap, subst, arith}
 use Rattle.std.proofs.lemmas.Result.{err_from_is_err_and}
-use Rattle.grammar.specs.Automaton.{simple, simples, term, terms}
 use Rattle.tosca.specs.declared.table.Node.TheVariants.{Bin}
 use Rattle.parser.specs.Advancing.{Listed}
 use Rattle.parser.proofs.Chains.{chain, chain_stop}
 use Rattle.expressions.proofs.Levels.{products, sums, relations, operated, operator_broken, operand_refused}
 use Rattle.expressions.proofs.Operands.{term_opens, expr_opens, term_refused, expr_refused, loop_ends, loop_broken, loop_refused, loop_again, expr_alone}
-use Rattle.expressions.proofs.Operands.{minus_ok, minus_broken, minus_refused, no_minus_either}
+use Rattle.expressions.proofs.Operands.{minus_ok, minus_refused, no_minus_either}
 use Rattle.expressions.proofs.Operands.{bracket_refused, bracket_missed, bracket_ok, not_refused, not_ok}
-use Rattle.expressions.proofs.Operands.{round_unopened, left_refused, slash_missed, right_refused, close_missed, round_ok}
+use Rattle.expressions.proofs.Operands.{left_refused, slash_missed, right_refused, close_missed, round_ok}
 use Rattle.expressions.proofs.expressions.+bracketed_expr_factor_first_term_negated_next_term_rounded_simple_term.Goals as goal
 
 pub term-returns-in_err-left : goal.term-returns-in_err-left

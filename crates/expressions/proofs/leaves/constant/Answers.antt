@@ -1,6 +1,6 @@
-use Rattle.std.proofs.Common.{◌≡◌, length, ap, arith}
+use Rattle.std.proofs.Common.{length, ap, arith}
 use Rattle.std.proofs.lemmas.Result.{err_from_is_err_and}
-use Rattle.expressions.proofs.Operands.{constant_ok, constant_broken, variable_ok, variable_refused}
+use Rattle.expressions.proofs.Operands.{constant_ok, constant_broken}
 use Rattle.expressions.proofs.leaves.constant.Goals as goal
 
 pub returns : goal.returns

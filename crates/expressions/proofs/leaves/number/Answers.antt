@@ -1,9 +1,9 @@
-use Rattle.std.proofs.Common.{◌≡◌, ℕ, Bool, true, false, cond, leb, List, ℤ, pos, Some, None, unwrap_or, sym, refl, ap, ◌∙◌, arith, w32, SFits, rules}
+use Rattle.std.proofs.Common.{◌≡◌, ℕ, Bool, true, false, cond, leb, List, pos, unwrap_or, sym, refl, ap, ◌∙◌, arith, w32, SFits, rules}
 use Rattle.lexer.specs.Spelling.{value}
 use Rattle.lexer.specs.Lexemes as raw
 use Rattle.lexer.specs.Scan.{limit}
 use Rattle.lexer.specs.Limited.{decimal}
-use Rattle.std.proofs.lemmas.Int.{ints, to_z-of_z}
+use Rattle.std.proofs.lemmas.Int.{to_z-of_z}
 use Rattle.expressions.proofs.leaves.number.Goals as goal
 
 kept : (ds : List ℕ) → limit (raw.number ds) ≡ 0 → unwrap_or (decimal ds) (pos 0) ≡ pos (value ds)

@@ -1,6 +1,6 @@
 use Rattle.std.proofs.Common.{◌≡◌, ◌+◌, ◌-◌, ◌*◌, ◌<◌, length, get_or, pos, sym, ap, ◌∙◌, arith, w32}
 use mir.Facts.{to_z_pos}
-use Rattle.lexer.specs.Spelling.{value, value_from}
+use Rattle.lexer.specs.Spelling.{value_from}
 use Rattle.lexer.proofs.Steps.{bools, behind, value_step, value_stop, value_grows, decimal_over, decimal_fits}
 use Rattle.lexer.proofs.Longer.{longer_over, longer_fits}
 use Rattle.lexer.proofs.bytes.decimal.Goals as goal

@@ -1,4 +1,4 @@
-use Rattle.std.proofs.Common.{◌<◌, length, vec_items, sym, ap, ◌∙◌, arith}
+use Rattle.std.proofs.Common.{◌<◌, length, vec_items, ap, ◌∙◌, arith}
 use Rattle.lexer.proofs.Steps.{bools}
 use Rattle.numerals.specs.Hexadecimal.{bytes_of}
 use Rattle.numerals.proofs.Decoded.{after, behind, after_more}

@@ -1,4 +1,4 @@
-use Rattle.std.proofs.Common.{◌≡◌, sym, ap, ◌∙◌}
+use Rattle.std.proofs.Common.{ap, ◌∙◌}
 use Rattle.verdict.specs.Verdicts.{Verdict}
 use Rattle.verdict.proofs.Answering.{ok_verdict, err_verdict}
 use Rattle.verdict.proofs.editor.wisnoeur_verdict.Goals as goal

@@ -2,7 +2,6 @@ use Rattle.std.proofs.Common.{◌≡◌, List, get_or, take, sym, ap, ◌∙◌}
 use Rattle.tosca.specs.declared.table.Entry.{Entry}
 use Rattle.tosca.specs.Table.{blank}
 use Rattle.tosca.specs.Decode.{program_of}
-use Rattle.grammar.specs.Listing.{Listing}
 use Rattle.statics.specs.Checking.{checking}
 use Rattle.draft.specs.Opening.{entries_of}
 use Rattle.reader.specs.Reading.{outcome}

@@ -1,4 +1,4 @@
-use Rattle.std.proofs.Common.{◌≡◌, true, false, ltb, ℤ, ◌∙◌, w32}
+use Rattle.std.proofs.Common.{◌≡◌, true, false, ltb, ◌∙◌}
 use Rattle.std.proofs.lemmas.Int.{to_z-of_z}
 use Rattle.line.specs.Places.{place}
 use Rattle.line.specs.Holding.{room, refused, appended}

@@ -1,16 +1,16 @@
 #!/bin/bash
-# The C program of editor/ is compiled, linked with the library and run on the examples and on empty, huge and
-# damaged texts; it prints what editor/expected.txt has. Runs after the proofs, since it links what they built;
-# `scripts/after/editor.sh --write` writes the file anew.
+# The C program of editor/ is compiled, linked with the library for C and run on the examples and on empty, huge and
+# damaged texts; it prints what editor/expected.txt has. Runs after the proofs; the library is proved and built here,
+# over what earlier checks kept. `scripts/after/editor.sh --write` writes the file anew.
 set -euo pipefail
 cd "$(dirname "$0")/../.."
 top=$PWD
 
 work=$(mktemp -d)
 trap 'rm -rf "$work"' EXIT
-rt staticlib verdict >"$work/log" 2>&1 || { tail -n 20 "$work/log" >&2; exit 1; }
-kit=$(dirname "$(dirname "$(rt doc)")")
-gcc -O2 -Wall -Wextra -Werror -o "$work/verdict" editor/verdict.c target/staticlib/libverdict.a "$kit/lib/librattle_c.a"
+(cd crates/verdict_c && rt lib) >"$work/log" 2>&1 || { tail -n 20 "$work/log" >&2; exit 1; }
+cp crates/verdict_c/out/libverdict_c.a "$work/libverdict.a"
+gcc -O2 -Wall -Wextra -Werror -o "$work/verdict" editor/verdict.c "$work/libverdict.a"
 
 cp examples/*.pas "$work"
 cd "$work"

@@ -1,6 +1,6 @@
 #!/bin/bash
 # Tries each crates/NAME/must-not-build/*.edit on one copy of the repository, outside it: the compiler must refuse it
-# with the named error, before anything is proved. Runs after the proofs, since it takes over what they built.
+# with the named error, before anything of the crate is proved.
 # An edit has the lines 'file:', 'old:' (text that stands once in the file), 'new:', 'error:' (the error's name) and
 # 'text:' (words of its first line).
 set -euo pipefail
@@ -9,7 +9,7 @@ top=$PWD
 
 copy=$(mktemp -d)
 trap 'rm -rf "$copy"' EXIT
-cp -R crates.txt crates target "$copy"
+tar -c --exclude='crates/*/out' crates crates.txt | tar -x -C "$copy"
 
 field() { sed -n "s/^$1: //p" "$2" | head -n 1; }
 
@@ -26,19 +26,21 @@ edited() { # EDIT FILE
 
 # Whether the compiler refuses the edit as it should.
 is_refused() { # NAME EDIT
-    local file error text status=0 first
-    file=crates/$1/$(field file "$2")
+    local file path error text status=0 first
+    file=$(field file "$2")
+    path=crates/$1/$file
     error=$(field error "$2")
     text=$(field text "$2")
-    if ! edited "$2" "$top/$file" >"$copy/$file"; then
-        echo "its old text does not stand once in $file"
+    if ! edited "$2" "$top/$path" >"$copy/$path"; then
+        cp "$top/$path" "$copy/$path"
+        echo "its old text does not stand once in $path"
         return 1
     fi
-    (cd "$copy" && RT_CUT=0 rt check "$1") >"$copy/log" 2>&1 || status=$?
-    cp "$top/$file" "$copy/$file"
+    (cd "$copy/crates/$1" && rt check) >"$copy/log" 2>&1 || status=$?
+    cp "$top/$path" "$copy/$path"
     first=$(grep -m 1 ': error\[' "$copy/log" || true)
     case $first in
-    *"/$file:"*": error[$error]: "*"$text"*)
+    "$file:"*": error[$error]: "*"$text"*)
         [ $status -ne 0 ] && ! grep -q "^fn $1::" "$copy/log" && return 0
         ;;
     esac

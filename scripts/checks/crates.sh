@@ -6,7 +6,7 @@ cd "$(dirname "$0")/../.."
 status=0
 for dir in crates/*/; do
     name=$(basename "$dir")
-    if ! grep -q "^$name:" crates.txt; then
+    if ! grep -qE "^$name( staticlib)?:" crates.txt; then
         echo "crates.txt does not list $name" >&2
         status=1
     fi

@@ -1,4 +1,4 @@
-// The entry for editors written in C.
+// The verdict as two plain numbers, for editors. The crate verdict_c exports it for C.
 ghost use Rattle.std.specs.Prelude.{◌≡◌};
 ghost use Rattle.verdict.specs.Verdicts.{verdict_of, rejected_number, rejected_place};
 
@@ -30,8 +30,7 @@ impl Verdict {
     }
 }
 
-#[unsafe(no_mangle)]
-pub extern "C" fn wisnoeur_verdict(text: &[u8]) -> Verdict
+pub fn wisnoeur_verdict(text: &[u8]) -> Verdict
     ensures number { result.number ≡ (verdict_of text.now).number }
     ensures place { result.place ≡ (verdict_of text.now).place }
 {

@@ -43,7 +43,7 @@ impl<'a> Printable<'a> {
         }
     }
 
-    pub(crate) fn blank(bytes: &'a [u8]) -> Printable<'a>
+    pub fn blank(bytes: &'a [u8]) -> Printable<'a>
         ensures { (result.style ≡ Style.Blank) × (result.bytes.now ≡ bytes.now) }
     {
         Printable {

@@ -28,7 +28,7 @@ pub fn check(rt: &HostRuntime, file: &str) -> Result<(), Failure> {
             println!(rt; "accepted: {nodes} nodes, {names} names")?;
             Ok(())
         }
-        Err(rejection) => reject(rt, file, &text, rejection),
+        Err(rejection) => Err(reject(rt, file, &text, rejection)),
     }
 }
 
@@ -77,28 +77,20 @@ fn accept<'a>(
     text: &'a [u8],
     table: &mut [Entry],
 ) -> Result<usize, Failure> {
-    match reading::read(text, table) {
-        Ok(nodes) => Ok(nodes),
-        Err(refusal) => {
-            reject(rt, file, text, Rejection::Unread(refusal))?;
-            Err(Failure::Refused)
-        }
-    }
+    reading::read(text, table).map_err(|refusal| reject(rt, file, text, Rejection::Unread(refusal)))
 }
 
 // Prints why the text is refused.
-fn reject<'a>(
-    rt: &HostRuntime,
-    file: &'a str,
-    text: &'a [u8],
-    rejection: Rejection,
-) -> Result<(), Failure> {
-    rt.println(Report {
+fn reject<'a>(rt: &HostRuntime, file: &'a str, text: &'a [u8], rejection: Rejection) -> Failure {
+    let report = Report {
         file,
         text,
         rejection,
-    })?;
-    Err(Failure::Refused)
+    };
+    match rt.println(report) {
+        Ok(()) => Failure::Refused,
+        Err(error) => error.into(),
+    }
 }
 
 // One line of the table: the node's number, the node, and where it stands.
@@ -113,10 +105,7 @@ fn print_node<W: Write>(
     let Some(node) = entry.node() else {
         return writeln!(out, "{number:>4}  {entry}  {place}");
     };
-    let name = match name_of(node) {
-        Some(name) => names.spelling(name),
-        None => None,
-    };
+    let name = name_of(node).and_then(|name| names.spelling(name));
     let named = Named { node, name };
     writeln!(out, "{number:>4}  {named}  {place}")
 }

@@ -1,5 +1,6 @@
 // Why the program ends with status 1.
-use crate::command::USAGE;
+use crate::command::Usage;
+use crate::edition::Edition;
 use std::alloc::AllocError;
 use std::fmt::{Display, Formatter, Write};
 use std::io;
@@ -8,7 +9,8 @@ use std::io;
 pub enum Failure {
     // the routine is refused, which has been printed
     Refused,
-    Usage,
+    // of the edition whose commands are shown
+    Usage(Edition),
     Unreadable(String, io::Error),
     Other(io::Error),
 }
@@ -29,7 +31,9 @@ impl Display for Failure {
     fn fmt<W: Write>(&self, f: &mut Formatter<W>) -> std::fmt::Result {
         match self {
             Failure::Refused => write!(f, "the routine is refused"),
-            Failure::Usage => write!(f, "these words are no command\n{USAGE}"),
+            Failure::Usage(edition) => {
+                write!(f, "these words are no command\n{}", Usage(*edition))
+            }
             Failure::Unreadable(file, error) => write!(f, "{file} cannot be read: {error}"),
             Failure::Other(error) => write!(f, "{error}"),
         }

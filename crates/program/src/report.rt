@@ -17,34 +17,31 @@ pub struct Report<'a> {
 
 impl Display for Report<'_> {
     fn fmt<W: Write>(&self, f: &mut Formatter<W>) -> Result {
-        let file = self.file;
-        let place = Position::new(self.text, self.rejection.place());
-        let number = self.rejection.number();
-        write!(f, "{file}:{place}: refused ({number}): ")?;
+        let place = self.rejection.place();
+        write!(
+            f,
+            "{}:{}: refused ({}): ",
+            self.file,
+            Position::new(self.text, place),
+            self.rejection.number()
+        )?;
         write_reason(f, self.text, self.rejection)?;
-        let excerpt = Excerpt::new(self.text, self.rejection.place());
-        write!(f, "\n{excerpt}")
+        write!(f, "\n{}", Excerpt::new(self.text, place))
     }
 }
 
 fn write_reason<W: Write>(f: &mut Formatter<W>, text: &[u8], rejection: Rejection) -> Result {
     match rejection {
-        Rejection::Unread(refusal) => {
-            let reason = Reason::new(text, refusal);
-            write!(f, "{reason}")
-        }
+        Rejection::Unread(refusal) => write!(f, "{}", Reason::new(text, refusal)),
         Rejection::Unsound(violation, entry) => {
             let node = entry.node();
             let names = names_of(text);
-            let name = match node {
-                Some(node) => match name_of(node) {
-                    Some(name) => names.spelling(name),
-                    None => None,
-                },
-                None => None,
-            };
-            let complaint = Complaint::new(violation.rule, node, name.unwrap_or(&[]));
-            write!(f, "{complaint}")
+            let name = node.and_then(name_of).and_then(|name| names.spelling(name));
+            write!(
+                f,
+                "{}",
+                Complaint::new(violation.rule, node, name.unwrap_or(&[]))
+            )
         }
     }
 }

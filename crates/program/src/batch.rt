@@ -1,5 +1,6 @@
 // Calls on standard input and their answers, one a line.
-use crate::request::Request;
+use crate::edition::Edition;
+use crate::request::{Request, RequestError};
 use checks::checking::{check, pass};
 use checks::state::Checked;
 use draft::draft::Draft;
@@ -14,8 +15,9 @@ use std::io::{BufRead, BufReader, BufWriter, Write};
 use std::{fmt, io, mem};
 use tosca::table::{BLANK, Entry};
 use verdict::judging::judge;
+use verdict::rejection::Rejection;
 
-// What is kept from line to line.
+// What is kept from line to line. The count is the caller's, and may be more than the table has.
 #[derive(Drop)]
 struct Session {
     table: Vec<Entry>,
@@ -38,15 +40,12 @@ enum Stage {
 enum Answer<'a> {
     Level(&'a str),
     New,
-    Verdict(u8, usize),
-    Read(usize),
-    ReadRefused(Refusal),
+    Verdict(Option<Rejection>),
+    Read(Result<usize, Refusal>),
     Raw,
     Table(&'a [Entry]),
-    Opened,
-    OpenRefused(Malformed),
-    Passes(Question),
-    Violates(Question, Violation),
+    Open(Result<(), Malformed>),
+    Asked(Question, Result<(), Violation>),
     Skipped,
     Unsupported,
     Malformed,
@@ -60,7 +59,7 @@ enum Question {
 }
 
 // Answers each line until the input ends.
-pub fn run(rt: &HostRuntime) -> io::Result<()> {
+pub fn run(rt: &HostRuntime, edition: Edition) -> io::Result<()> {
     let heap = rt.alloc();
     let mut input = BufReader::new(heap, rt.stdin())?;
     let mut out = BufWriter::new(heap, rt.stdout())?;
@@ -75,7 +74,7 @@ pub fn run(rt: &HostRuntime) -> io::Result<()> {
         if input.read_until(b'\n', &mut line)? == 0 {
             break;
         }
-        let request = Request::parse(heap, without_end(&line))?;
+        let request = Request::parse(heap, without_end(&line), edition);
         let answer = session.answer(request)?;
         writeln!(out, "{answer}")?;
     }
@@ -99,44 +98,49 @@ impl Session {
         }
     }
 
-    fn answer<'a>(&'a mut self, request: Request<'a>) -> Result<Answer<'a>, AllocError> {
+    fn answer<'a>(
+        &'a mut self,
+        request: Result<Request<'a>, RequestError>,
+    ) -> Result<Answer<'a>, AllocError> {
         match request {
-            Request::Level(level) => Ok(Answer::Level(level)),
-            Request::New => {
+            Ok(Request::Level(level)) => Ok(Answer::Level(level)),
+            Ok(Request::New) => {
                 self.clear(0)?;
                 Ok(Answer::New)
             }
-            Request::Verdict(text) => Ok(verdict(&text)),
-            Request::Read(cap, text) => self.read(cap, &text),
-            Request::Raw(cap, count, entries) => self.put(cap, count, entries),
-            Request::Table => Ok(Answer::Table(self.nodes())),
-            Request::Open => Ok(self.open()),
-            Request::Check => Ok(self.check()),
-            Request::Pass => Ok(self.pass()),
-            Request::Unsupported => Ok(Answer::Unsupported),
-            Request::Malformed => Ok(Answer::Malformed),
+            Ok(Request::Verdict(text)) => Ok(Answer::Verdict(judge(&text).err())),
+            Ok(Request::Read(cap, text)) => self.read(cap, &text),
+            Ok(Request::Raw(cap, count, entries)) => self.put(cap, count, entries),
+            Ok(Request::Table) => Ok(Answer::Table(self.nodes())),
+            Ok(Request::Open) => Ok(self.open()),
+            Ok(Request::Check) => Ok(self.check()),
+            Ok(Request::Pass) => Ok(self.pass()),
+            Err(RequestError::Unsupported) => Ok(Answer::Unsupported),
+            Err(RequestError::Malformed) => Ok(Answer::Malformed),
+            Err(RequestError::OutOfMemory(error)) => Err(error),
         }
     }
 
     fn read<'a>(&'a mut self, cap: usize, text: &[u8]) -> Result<Answer<'a>, AllocError> {
         self.clear(cap)?;
-        match reading::read(text, &mut self.table) {
-            Ok(count) => {
-                self.count = count;
-                self.stage = Stage::Table;
-                Ok(Answer::Read(count))
-            }
-            Err(refusal) => Ok(Answer::ReadRefused(refusal)),
+        let outcome = reading::read(text, &mut self.table);
+        if let Ok(count) = outcome {
+            self.count = count;
+            self.stage = Stage::Table;
         }
+        Ok(Answer::Read(outcome))
     }
 
-    // A table put in by hand: the entries, and blank ones up to its capacity.
+    // A table put in by hand: the entries, and blank ones up to its capacity, which holds them all.
     fn put<'a>(
         &'a mut self,
         cap: usize,
         count: usize,
         entries: Vec<Entry>,
     ) -> Result<Answer<'a>, AllocError> {
+        if entries.len() > cap {
+            return Ok(Answer::Malformed);
+        }
         self.clear(0)?;
         self.table = entries;
         self.table.resize(cap, BLANK)?;
@@ -165,24 +169,20 @@ impl Session {
         match open(&self.table, self.count) {
             Ok(draft) => {
                 self.stage = Stage::Opened(draft);
-                Answer::Opened
+                Answer::Open(Ok(()))
             }
             Err(malformed) => {
                 self.stage = Stage::Table;
-                Answer::OpenRefused(malformed)
+                Answer::Open(Err(malformed))
             }
         }
     }
 
     fn check<'a>(&'a self) -> Answer<'a> {
-        let draft = match &self.stage {
-            Stage::Opened(draft) => draft,
-            Stage::Passed(checked) => checked.draft(),
-            _ => return Answer::Skipped,
-        };
-        match check(draft) {
-            Ok(()) => Answer::Passes(Question::Check),
-            Err(violation) => Answer::Violates(Question::Check, violation),
+        match &self.stage {
+            Stage::Opened(draft) => Answer::Asked(Question::Check, check(draft)),
+            Stage::Passed(checked) => Answer::Asked(Question::Check, check(checked.draft())),
+            Stage::Table | Stage::Nothing => Answer::Skipped,
         }
     }
 
@@ -198,7 +198,10 @@ impl Stage {
     fn pass<'a>(self) -> (Stage, Answer<'a>) {
         match self {
             Stage::Opened(draft) => pass_draft(draft),
-            Stage::Passed(checked) => (Stage::Passed(checked), Answer::Passes(Question::Pass)),
+            Stage::Passed(checked) => (
+                Stage::Passed(checked),
+                Answer::Asked(Question::Pass, Ok(())),
+            ),
             Stage::Table => (Stage::Table, Answer::Skipped),
             Stage::Nothing => (Stage::Nothing, Answer::Skipped),
         }
@@ -206,32 +209,19 @@ impl Stage {
 }
 
 fn pass_draft<'a>(draft: Draft) -> (Stage, Answer<'a>) {
-    match pass(draft) {
-        Ok(checked) => (Stage::Passed(checked), Answer::Passes(Question::Pass)),
-        Err(refused) => {
-            let (draft, violation) = refused;
-            (
-                Stage::Opened(draft),
-                Answer::Violates(Question::Pass, violation),
-            )
-        }
-    }
-}
-
-// The verdict on a text, zeros if it may be translated.
-fn verdict<'a>(text: &[u8]) -> Answer<'a> {
-    match judge(text) {
-        Ok(_) => Answer::Verdict(0, 0),
-        Err(rejection) => Answer::Verdict(rejection.number(), rejection.place()),
-    }
+    let (stage, outcome) = match pass(draft) {
+        Ok(checked) => (Stage::Passed(checked), Ok(())),
+        Err((draft, violation)) => (Stage::Opened(draft), Err(violation)),
+    };
+    (stage, Answer::Asked(Question::Pass, outcome))
 }
 
 impl Display for Question {
     fn fmt<W: fmt::Write>(&self, f: &mut Formatter<W>) -> fmt::Result {
-        match self {
-            Question::Check => write!(f, "check"),
-            Question::Pass => write!(f, "pass"),
-        }
+        f.write_str(match self {
+            Question::Check => "check",
+            Question::Pass => "pass",
+        })
     }
 }
 
@@ -240,25 +230,22 @@ impl Display for Answer<'_> {
         match self {
             Answer::Level(level) => write!(f, "level {level}"),
             Answer::New => write!(f, "new"),
-            Answer::Verdict(number, place) => write!(f, "verdict {number} {place}"),
-            Answer::Read(count) => write!(f, "read ok {count}"),
-            Answer::ReadRefused(refusal) => {
-                let number = refusal.question.number();
-                let place = refusal.place;
-                write!(f, "read no {number} {place}")
+            Answer::Verdict(None) => write!(f, "verdict 0 0"),
+            Answer::Verdict(Some(rejection)) => {
+                write!(f, "verdict {} {}", rejection.number(), rejection.place())
+            }
+            Answer::Read(Ok(count)) => write!(f, "read ok {count}"),
+            Answer::Read(Err(refusal)) => {
+                write!(f, "read no {} {}", refusal.question.number(), refusal.place)
             }
             Answer::Raw => write!(f, "raw"),
             Answer::Table(entries) => write_table(f, entries),
-            Answer::Opened => write!(f, "open ok"),
-            Answer::OpenRefused(malformed) => {
-                let number = malformed.number();
-                write!(f, "open no {number}")
-            }
-            Answer::Passes(question) => write!(f, "{question} ok"),
-            Answer::Violates(question, violation) => {
+            Answer::Open(Ok(())) => write!(f, "open ok"),
+            Answer::Open(Err(malformed)) => write!(f, "open no {}", malformed.number()),
+            Answer::Asked(question, Ok(())) => write!(f, "{question} ok"),
+            Answer::Asked(question, Err(violation)) => {
                 let number = violation.rule.number();
-                let node = violation.node;
-                write!(f, "{question} no {number} {node}")
+                write!(f, "{question} no {number} {}", violation.node)
             }
             Answer::Skipped => write!(f, "skipped"),
             Answer::Unsupported => write!(f, "unsupported"),

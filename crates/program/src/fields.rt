@@ -1,5 +1,5 @@
 // The fields of a code table that a line can hold: `kind,op,value,cell,target,node` for each entry.
-use crate::nodes::SHORT;
+use crate::nodes::{SHORT, UNKNOWN, operator_code};
 use numerals::number::{integer, natural};
 
 // What may stand in a field. A question mark may stand in each.
@@ -23,13 +23,13 @@ pub const INSTRUCTION: [Field; 6] = [
 ];
 
 impl Field {
-    pub fn allows(self, word: &str) -> bool {
-        if word == "?" {
+    fn allows(self, word: &str) -> bool {
+        if word == UNKNOWN {
             return true;
         }
         match self {
             Field::InstructionKind => is_instruction_kind(word),
-            Field::Operator => is_operator(word),
+            Field::Operator => operator_code(word).is_some(),
             Field::Number => natural(word.as_bytes(), SHORT).is_some(),
             Field::Value => integer(word.as_bytes()).is_some(),
         }
@@ -52,34 +52,15 @@ fn is_instruction_kind(word: &str) -> bool {
     )
 }
 
-fn is_operator(word: &str) -> bool {
-    matches!(
-        word,
-        "neg" | "not" | "+" | "-" | "*" | "div" | "round" | "<" | ">" | "=" | "and" | "or"
-    )
-}
-
 // Whether the list's items have these fields; a list without items is a hyphen.
 pub fn is_list(list: &str, fields: &[Field]) -> bool {
-    if list == "-" {
-        return true;
-    }
-    for item in list.split('|') {
-        if !is_item(item, fields) {
-            return false;
-        }
-    }
-    true
+    list == "-" || list.split('|').all(|item| is_item(item, fields))
 }
 
 fn is_item(item: &str, fields: &[Field]) -> bool {
-    if item.split(',').count() != fields.len() {
-        return false;
-    }
-    for (word, field) in item.split(',').zip(fields.iter()) {
-        if !field.allows(word) {
-            return false;
-        }
-    }
-    true
+    item.split(',').count() == fields.len()
+        && item
+            .split(',')
+            .zip(fields.iter())
+            .all(|(word, field)| field.allows(word))
 }

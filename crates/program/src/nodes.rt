@@ -1,4 +1,6 @@
 // Node tables as a line writes them: `kind,op,name,type,value,first,second,third,place` for each entry.
+// Words become codes by functions, not by TryFrom: the types and `str` belong to other crates.
+use crate::request::RequestError;
 use numerals::number::{integer, natural};
 use std::alloc::{AllocError, Global};
 use tosca::operators::{Binary, SimpleType, Unary, Value};
@@ -8,32 +10,28 @@ use tosca::table::{Entry, Node};
 pub const SHORT: u32 = 65535;
 
 // Stands in a field for a code that is not known, or for nothing where the field does not count.
-const UNKNOWN: &str = "?";
+pub const UNKNOWN: &str = "?";
 
 // The entries of a list, if it writes nothing else; a list without items is a hyphen.
-pub fn entries(heap: Global, list: &str) -> Result<Option<Vec<Entry>>, AllocError> {
+pub fn entries(heap: Global, list: &str) -> Result<Vec<Entry>, RequestError> {
     let mut entries = Vec::new(heap);
-    if list == "-" {
-        return Ok(Some(entries));
+    if list != "-" {
+        for item in list.split('|') {
+            entries.push(entry(heap, item)?).map_err(AllocError::from)?;
+        }
     }
-    for item in list.split('|') {
-        let Some(entry) = entry(heap, item)? else {
-            return Ok(None);
-        };
-        entries.push(entry)?;
-    }
-    Ok(Some(entries))
+    Ok(entries)
 }
 
-fn entry(heap: Global, item: &str) -> Result<Option<Entry>, AllocError> {
+fn entry(heap: Global, item: &str) -> Result<Entry, RequestError> {
     let words: Vec<&str> = item.split(',').collect(heap)?;
-    Ok(match words.as_slice() {
+    match words.as_slice() {
         [kind, op, name, typ, value, first, second, third, place] => {
             let numbers = [*name, *first, *second, *third, *place];
-            with_codes(kind, op, typ, value, numbers)
+            with_codes(kind, op, typ, value, numbers).ok_or(RequestError::Malformed)
         }
-        _ => None,
-    })
+        _ => Err(RequestError::Malformed),
+    }
 }
 
 fn with_codes(kind: &str, op: &str, typ: &str, value: &str, numbers: [&str; 5]) -> Option<Entry> {
@@ -74,7 +72,7 @@ fn kind_code(word: &str) -> Option<u8> {
 }
 
 // The code of an operator; 0 is none.
-fn operator_code(word: &str) -> Option<u8> {
+pub fn operator_code(word: &str) -> Option<u8> {
     let node = match word {
         UNKNOWN => return Some(0),
         "neg" => Node::Uny(Unary::Negate, 0),

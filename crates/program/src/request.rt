@@ -1,0 +1,118 @@
+// What a line of a batch asks for.
+use crate::edition::Edition;
+use crate::fields::{INSTRUCTION, is_list};
+use crate::nodes::{SHORT, entries};
+use numerals::hex::decode;
+use numerals::number::{integer, natural};
+use std::alloc::{AllocError, Global};
+use tosca::table::Entry;
+
+#[derive(Drop)]
+pub enum Request<'a> {
+    Level(&'a str),
+    New,
+    Verdict(Vec<u8>),
+    // with room for so many entries
+    Read(usize, Vec<u8>),
+    // with room for so many entries, and a count
+    Raw(usize, usize, Vec<Entry>),
+    Table,
+    Open,
+    Check,
+    Pass,
+}
+
+// Why a line is no request.
+#[derive(Clone, Copy)]
+pub enum RequestError {
+    // a call that is not offered
+    Unsupported,
+    Malformed,
+    OutOfMemory(AllocError),
+}
+
+impl From<AllocError> for RequestError {
+    fn from(error: AllocError) -> RequestError {
+        RequestError::OutOfMemory(error)
+    }
+}
+
+impl<'a> Request<'a> {
+    // The request of a line, if it is one that the edition has.
+    pub fn parse(
+        heap: Global,
+        line: &'a [u8],
+        edition: Edition,
+    ) -> Result<Request<'a>, RequestError> {
+        let request = Request::of(heap, line)?;
+        if edition == Edition::Reading && request.is_of_checking() {
+            return Err(RequestError::Unsupported);
+        }
+        Ok(request)
+    }
+
+    fn of(heap: Global, line: &'a [u8]) -> Result<Request<'a>, RequestError> {
+        let line = std::str::from_utf8(line).map_err(|_| RequestError::Malformed)?;
+        let words: Vec<&str> = line.split(' ').collect(heap)?;
+        match words.as_slice() {
+            ["level", level] if is_short(level) => Ok(Request::Level(level)),
+            ["new"] => Ok(Request::New),
+            ["verdict", text] => Ok(Request::Verdict(bytes(heap, text)?)),
+            ["read", cap, text] => Ok(Request::Read(short(cap)?, bytes(heap, text)?)),
+            ["raw", cap, count, list] => {
+                Ok(Request::Raw(short(cap)?, short(count)?, entries(heap, list)?))
+            }
+            ["table"] => Ok(Request::Table),
+            ["open"] => Ok(Request::Open),
+            ["check"] => Ok(Request::Check),
+            ["pass"] => Ok(Request::Pass),
+            words => Err(refused(words)),
+        }
+    }
+
+    fn is_of_checking(&self) -> bool {
+        matches!(
+            self,
+            Request::Verdict(_) | Request::Raw(..) | Request::Open | Request::Check | Request::Pass
+        )
+    }
+}
+
+// The bytes of a text; those of an empty one are written as a hyphen.
+fn bytes(heap: Global, word: &str) -> Result<Vec<u8>, RequestError> {
+    match word {
+        "-" => Ok(Vec::new(heap)),
+        "" => Err(RequestError::Malformed),
+        _ => decode(heap, word.as_bytes())?.ok_or(RequestError::Malformed),
+    }
+}
+
+// Why the words are no request: a call of no edition yet, or no call.
+fn refused(words: &[&str]) -> RequestError {
+    let is_call = match words {
+        ["code" | "mount" | "stop" | "take" | "lists" | "cells"] => true,
+        ["start", "ring" | "register"] => true,
+        ["translate", cap] => is_short(cap),
+        ["feed", value] => integer(value.as_bytes()).is_some(),
+        ["run", grant] => natural(grant.as_bytes(), u32::MAX).is_some(),
+        ["rawcode", cap, count, list] => {
+            is_short(cap) && is_short(count) && is_list(list, &INSTRUCTION)
+        }
+        _ => false,
+    };
+    if is_call {
+        RequestError::Unsupported
+    } else {
+        RequestError::Malformed
+    }
+}
+
+fn is_short(word: &str) -> bool {
+    short(word).is_ok()
+}
+
+// A number of 16 bits.
+fn short(word: &str) -> Result<usize, RequestError> {
+    let number = natural(word.as_bytes(), SHORT).ok_or(RequestError::Malformed)?;
+    usize::try_from(number).map_err(|_| RequestError::Malformed)
+}

@@ -2,6 +2,7 @@
 ghost use Rattle.std.specs.Prelude.{◌≡◌, ℕ, ◌<◌, ◌≢◌};
 ghost use Rattle.line.specs.Registers.{register, number_of};
 ghost use Rattle.line.specs.Cells.{register_cell};
+ghost use Rattle.std.proofs.Common.{rules};
 
 use crate::cells::Cells;
 
@@ -40,10 +41,6 @@ pub struct Bank {
 }
 
 impl Bank {
-    pub fn new() -> Bank {
-        Bank { bytes: [0; BYTES] }
-    }
-
     fn get(&self, index: usize) -> u16
         requires { index < 120 }
         ensures { result ≡ register self.now.bytes index }
@@ -64,6 +61,12 @@ impl Bank {
 
 impl Cells<NUMBERS> for Bank {
     ghost cell = { register_cell };
+
+    ghost size_positive = { Prim.search rules };
+
+    fn new() -> Self {
+        Bank { bytes: [0; BYTES] }
+    }
 
     fn read(&self, place: usize) -> i32 {
         let pair = Pair {

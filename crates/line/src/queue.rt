@@ -12,3 +12,7 @@ pub struct Queue<C, const SIZE: usize> {
     ghost head_within: { head < SIZE },
     ghost len_within: { len ≤ SIZE },
 }
+
+// As many numbers wait as may.
+#[derive(Drop)]
+pub struct Full;

@@ -1,9 +1,9 @@
 // A queue's calls.
 ghost use Rattle.std.specs.Prelude.{◌≡◌, ℕ, ◌+◌, ◌-◌, ◌<◌, ◌≤◌, ◌≢◌, [], ℤ, nat_lt};
-ghost use Rattle.line.specs.Queues.{accepts, first, enqueued, dequeued};
+ghost use Rattle.line.specs.Queues.{if_room, first, enqueued, dequeued};
 ghost use Rattle.line.specs.Places.{place, waiting};
 
-use super::Queue;
+use super::{Full, Queue};
 use crate::cells::Cells;
 
 // Of the places 0 to size - 1, the one that comes count after head, the first again after the last.
@@ -21,12 +21,11 @@ fn place_after(size: usize, head: usize, count: usize) -> usize
 }
 
 impl<C: Cells<SIZE>, const SIZE: usize> Queue<C, SIZE> {
-    pub fn new(cells: C) -> Queue<C, SIZE>
-        requires { 0 < SIZE }
+    pub fn new() -> Queue<C, SIZE>
         ensures { waiting C.Cells.cell result ≡ [] }
     {
         Queue {
-            cells,
+            cells: C::new(),
             head: 0,
             len: 0,
         }
@@ -63,16 +62,16 @@ impl<C: Cells<SIZE>, const SIZE: usize> Queue<C, SIZE> {
         number
     }
 
-    // Adds a last number, and says whether there was room.
-    pub fn push(&mut self, number: i32) -> bool
-        ensures answer { result ≡ accepts SIZE (waiting C.Cells.cell self.old) }
+    // Adds a last number, where there is room.
+    pub fn push(&mut self, number: i32) -> Result<(), Full>
+        ensures answer { result ≡ if_room SIZE (waiting C.Cells.cell self.old) (record {}) }
         ensures after { waiting C.Cells.cell self.new ≡ enqueued SIZE number (waiting C.Cells.cell self.old) }
     {
         if !self.has_room() {
-            return false;
+            return Err(Full);
         }
         self.append(number);
-        true
+        Ok(())
     }
 
     // Removes and gives the first number.

@@ -1,4 +1,4 @@
-use Rattle.std.proofs.Common.{◌≡◌, true, false, ltb, ◌∙◌}
+use Rattle.std.proofs.Common.{◌≡◌, true, false, cond, ltb, Ok, Err, ap, ◌∙◌}
 use Rattle.std.proofs.lemmas.Int.{to_z-of_z}
 use Rattle.line.specs.Places.{place}
 use Rattle.line.specs.Holding.{room, refused, appended}
@@ -10,7 +10,7 @@ returns-then-not-has_room g c =
     let cell = g.C.Cells.cell q.cells in
     let full : false ≡ ltb q.len g.row.SIZE = c.if-not-has_room.ensures in
     record {
-      answer = full ∙ room g.row.SIZE cell q.head q.len;
+      answer = ap (λ b. cond b (Ok tt) (Err (record {}))) (full ∙ room g.row.SIZE cell q.head q.len);
       after = refused g.row.SIZE cell q.head q.len c.args.number full;
     }
 
@@ -23,6 +23,6 @@ returns g c =
     let fits = c.ranges.number in
     let here : cell p.cells (place g.row.SIZE q.head q.len) ≡ c.args.number = simp to_z-of_z at c.append.ensures.here in
     record {
-      answer = free ∙ room g.row.SIZE (cell q.cells) q.head q.len;
+      answer = ap (λ b. cond b (Ok tt) (Err (record {}))) (free ∙ room g.row.SIZE (cell q.cells) q.head q.len);
       after = appended g.row.SIZE (cell q.cells) (cell p.cells) q.head q.len p.head p.len c.args.number q.head_within free c.append.ensures.head c.append.ensures.len here c.append.ensures.elsewhere;
     }

@@ -1,0 +1,32 @@
+// 64 numbers, each in an element of an array.
+ghost use Rattle.line.specs.Cells.{number_cell};
+ghost use Rattle.std.proofs.Common.{rules};
+
+use crate::cells::Cells;
+
+pub const NUMBERS: usize = 64;
+
+#[derive(Drop)]
+pub struct Numbers {
+    elements: [i32; NUMBERS],
+}
+
+impl Cells<NUMBERS> for Numbers {
+    ghost cell = { number_cell };
+
+    ghost size_positive = { Prim.search rules };
+
+    fn new() -> Self {
+        Numbers {
+            elements: [0; NUMBERS],
+        }
+    }
+
+    fn read(&self, place: usize) -> i32 {
+        self.elements[place]
+    }
+
+    fn write(&mut self, place: usize, number: i32) {
+        self.elements[place] = number;
+    }
+}

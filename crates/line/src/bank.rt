@@ -6,7 +6,7 @@ ghost use Rattle.std.proofs.Common.{rules};
 
 use crate::cells::Cells;
 
-pub const NUMBERS: usize = 60;
+const NUMBERS: usize = 60;
 
 const BYTES: usize = 4 * NUMBERS;
 
@@ -59,7 +59,11 @@ impl Bank {
     }
 }
 
-impl Cells<NUMBERS> for Bank {
+impl Cells for Bank {
+    const SIZE: usize = NUMBERS;
+
+    ghost SIZE = { 60 };
+
     ghost cell = { register_cell };
 
     ghost size_positive = { Prim.search rules };

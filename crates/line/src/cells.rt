@@ -1,7 +1,12 @@
 // Places, numbered from 0, that each hold a number.
 ghost use Rattle.std.specs.Prelude.{◌≡◌, ℕ, ◌<◌, ◌≤◌, ◌≢◌, ℤ, pos};
 
-pub trait Cells<const SIZE: usize> {
+pub trait Cells {
+    // how many places there are
+    const SIZE: usize;
+
+    ghost SIZE: { ℕ };
+
     // the number in a place
     ghost cell: { Self → ℕ → ℤ };
 

@@ -4,14 +4,18 @@ ghost use Rattle.std.proofs.Common.{rules};
 
 use crate::cells::Cells;
 
-pub const NUMBERS: usize = 64;
+const NUMBERS: usize = 64;
 
 #[derive(Drop)]
 pub struct Numbers {
     elements: [i32; NUMBERS],
 }
 
-impl Cells<NUMBERS> for Numbers {
+impl Cells for Numbers {
+    const SIZE: usize = NUMBERS;
+
+    ghost SIZE = { 64 };
+
     ghost cell = { number_cell };
 
     ghost size_positive = { Prim.search rules };

@@ -1,7 +1,5 @@
 // A line of two queues, each in places of one kind.
-ghost use Rattle.std.specs.Prelude.{◌≡◌, []};
-ghost use Rattle.line.specs.Meanings.{queue_readings, queue_sends};
-ghost use Rattle.line.specs.Holding.{within};
+ghost use Rattle.std.specs.Prelude.{◌≡◌, ◌≤◌, [], length};
 
 use crate::answers::{FeedRefusal, SendRefusal, TakeRefusal};
 use crate::cells::Cells;
@@ -9,15 +7,17 @@ use crate::interface::Line;
 use crate::queue::Queue;
 
 #[derive(Drop)]
-pub struct QueueLine<C, const SIZE: usize> {
-    readings: Queue<C, SIZE>,
-    sends: Queue<C, SIZE>,
+pub struct QueueLine<C: Cells> {
+    readings: Queue<C>,
+    sends: Queue<C>,
+    ghost readings_within: { length readings ≤ C.SIZE },
+    ghost sends_within: { length sends ≤ C.SIZE },
 }
 
-impl<C: Cells<SIZE>, const SIZE: usize> QueueLine<C, SIZE> {
-    pub fn new() -> QueueLine<C, SIZE>
-        ensures readings { queue_readings C.Cells.cell result ≡ [] }
-        ensures sends { queue_sends C.Cells.cell result ≡ [] }
+impl<C: Cells> QueueLine<C> {
+    pub fn new() -> QueueLine<C>
+        ensures readings { result.readings ≡ [] }
+        ensures sends { result.sends ≡ [] }
     {
         QueueLine {
             readings: Queue::new(),
@@ -26,22 +26,22 @@ impl<C: Cells<SIZE>, const SIZE: usize> QueueLine<C, SIZE> {
     }
 }
 
-impl<C: Cells<SIZE>, const SIZE: usize> Line for QueueLine<C, SIZE> {
-    ghost readings = { queue_readings C.Cells.cell };
+impl<C: Cells> Line for QueueLine<C> {
+    ghost readings = { λ line. line.readings };
 
-    ghost sends = { queue_sends C.Cells.cell };
+    ghost sends = { λ line. line.sends };
 
-    ghost max_readings = { SIZE };
+    ghost max_readings = { C.SIZE };
 
-    ghost max_sends = { SIZE };
+    ghost max_sends = { C.SIZE };
 
-    ghost max_readings_positive = { C.Cells.size_positive };
+    ghost max_readings_positive = { C.size_positive };
 
-    ghost max_sends_positive = { C.Cells.size_positive };
+    ghost max_sends_positive = { C.size_positive };
 
-    ghost readings_within = { λ line. within SIZE (C.Cells.cell line.readings.cells) line.readings.head line.readings.len line.readings.len_within };
+    ghost readings_within = { λ line. line.readings_within };
 
-    ghost sends_within = { λ line. within SIZE (C.Cells.cell line.sends.cells) line.sends.head line.sends.len line.sends.len_within };
+    ghost sends_within = { λ line. line.sends_within };
 
     fn feed(&mut self, number: i32) -> Result<(), FeedRefusal> {
         self.readings.push(number).map_err(|_| FeedRefusal::Full)

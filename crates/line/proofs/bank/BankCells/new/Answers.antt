@@ -1,6 +1,6 @@
 use Rattle.std.proofs.Common.{◌≡◌, ℕ, ◌+◌, ◌*◌, ◌<◌, replicate, slice_index, refl, arith}
 use Rattle.std.proofs.lemmas.List.{get_or-replicate}
-use Rattle.line.proofs.bank.BankCellsNUMBERS.new.Goals as goal
+use Rattle.line.proofs.bank.BankCells.new.Goals as goal
 
 pub returns : goal.returns
 returns c k within =

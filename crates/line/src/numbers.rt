@@ -1,5 +1,6 @@
 // 64 numbers, each in an element of an array.
 ghost use Rattle.line.specs.Cells.{number_cell};
+ghost use Rattle.line.specs.declared.numbers.TheConstants.{NUMBERS};
 ghost use Rattle.std.proofs.Common.{rules};
 
 use crate::cells::Cells;
@@ -14,7 +15,7 @@ pub struct Numbers {
 impl Cells for Numbers {
     const SIZE: usize = NUMBERS;
 
-    ghost SIZE = { 64 };
+    ghost SIZE = { NUMBERS };
 
     ghost cell = { number_cell };
 

@@ -7,6 +7,7 @@ use std::marker::Model;
 
 pub mod ops;
 
+// A ring buffer by hand and not a VecDeque: no call of a line allocates, so the places are fixed.
 #[derive(Drop)]
 pub struct Queue<C: Cells> {
     cells: C,

@@ -1,1 +1,3 @@
 pub mod Moving
+pub mod Holding
+pub mod Bytes

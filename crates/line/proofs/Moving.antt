@@ -1,11 +1,21 @@
 -- Numbers that are fed, and readings that are removed, one more at a time.
-use Rattle.std.proofs.Common.{◌≡◌, ℕ, ◌+◌, ◌-◌, ◌<◌, ◌≤◌, true, false, cond, List, [], ◌∷◌, ◌++◌, length, get_or, take, drop, set, ℤ, pos, sym, refl, ap, ◌∙◌, append_assoc, arith}
+use Rattle.std.proofs.Common.{◌≡◌, ℕ, ◌+◌, ◌-◌, ◌<◌, ◌≤◌, true, false, cond, List, [], ◌∷◌, ◌++◌, length, get_or, take, drop, set, ℤ, pos, Some, None, Bool, Result, Ok, Err, is_err, sym, refl, ap, ◌∙◌, append_assoc, arith}
 use Rattle.std.proofs.lemmas.List.{length-append, length-take-le, length-drop, set_at, take_more, drop_more}
 use Rattle.std.proofs.lemmas.Bool.{ltb-false}
-use Rattle.line.specs.declared.answers.Next.TheVariants.{Reading, NotYet}
-use Rattle.line.specs.Answers.{next_answer}
-use Rattle.line.specs.Queues.{accepts, enqueued, dequeued}
+use Rattle.line.specs.Queues.{accepts, enqueued, first, dequeued}
 use Rattle.line.specs.Transfers.{accepted_count}
+
+module _ {E : Type 0} (refusal : E) where
+  abbrev answer : Bool → Result (Unit {0}) E
+  answer b = cond b (Ok tt) (Err refusal)
+
+  pub room : (b : Bool) → false ≡ is_err (answer b) → true ≡ b
+  room true e = refl
+  room false e = cc
+
+  pub no_room : (b : Bool) → true ≡ is_err (answer b) → false ≡ b
+  no_room true e = cc
+  no_room false e = refl
 
 pub enqueued_room : (limit : ℕ) (number : ℤ) (numbers : List ℤ) → true ≡ accepts limit numbers → enqueued limit number numbers ≡ numbers ++ (number ∷ [])
 enqueued_room limit number numbers e = ap (λ b. cond b (numbers ++ (number ∷ [])) numbers) (sym e)
@@ -32,11 +42,11 @@ module _ (limit : ℕ) (start numbers now : List ℤ) (i : ℕ) (so : now ≡ st
   pub fed_all : length now ≤ limit → i ≡ length numbers → i ≡ accepted_count limit start (length numbers)
   fed_all within e = omega (arith, now_length (omega arith))
 
-reading_of : (number : ℤ) (readings : List ℤ) → Reading number ≡ next_answer readings → readings ≡ number ∷ dequeued readings
+reading_of : (number : ℤ) (readings : List ℤ) → Some number ≡ first readings → readings ≡ number ∷ dequeued readings
 reading_of number [] e = let z : ◌≡◌ {A = ℕ} 0 1 = cc in absurd (omega arith)
 reading_of number (x ∷ rest) e = let same : x ≡ number = cc in ap (λ y. y ∷ rest) same
 
-pub none_of : (readings : List ℤ) → NotYet ≡ next_answer readings → readings ≡ []
+pub none_of : (readings : List ℤ) → None ≡ first readings → readings ≡ []
 none_of [] e = refl
 none_of (x ∷ rest) e = let z : ◌≡◌ {A = ℕ} 0 1 = cc in absurd (omega arith)
 
@@ -44,19 +54,19 @@ module _ (start now : List ℤ) (i : ℕ) (so : now ≡ drop i start) where
   left : length now ≡ length start - i
   left = ap length so ∙ length-drop i start
 
-  pub more_left : (number : ℤ) → Reading number ≡ next_answer now → i < length start
+  pub more_left : (number : ℤ) → Some number ≡ first now → i < length start
   more_left number e = omega (arith, left, ap length (reading_of number now e))
 
-  pub none_left : i ≤ length start → NotYet ≡ next_answer now → i ≡ length start
+  pub none_left : i ≤ length start → None ≡ first now → i ≡ length start
   none_left l e = omega (arith, left, ap length (none_of now e))
 
-  split : (number : ℤ) → Reading number ≡ next_answer now → number ∷ dequeued now ≡ get_or start i (pos 0) ∷ drop (i + 1) start
+  split : (number : ℤ) → Some number ≡ first now → number ∷ dequeued now ≡ get_or start i (pos 0) ∷ drop (i + 1) start
   split number e = sym (reading_of number now e) ∙ so ∙ drop_more start i (pos 0) (more_left number e)
 
-  pub removed_is : (number : ℤ) → Reading number ≡ next_answer now → number ≡ get_or start i (pos 0)
+  pub removed_is : (number : ℤ) → Some number ≡ first now → number ≡ get_or start i (pos 0)
   removed_is number e = let s = split number e in cc
 
-  pub removed_more : (number : ℤ) → Reading number ≡ next_answer now → dequeued now ≡ drop (i + 1) start
+  pub removed_more : (number : ℤ) → Some number ≡ first now → dequeued now ≡ drop (i + 1) start
   removed_more number e = let s = split number e in cc
 
 pub written_more : (start places before : List ℤ) (i : ℕ) → i < length start → i < length before

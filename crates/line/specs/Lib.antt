@@ -3,6 +3,4 @@ pub mod Answers
 pub mod Places
 pub mod Registers
 pub mod Cells
-pub mod Meanings
 pub mod Transfers
-pub mod Holding

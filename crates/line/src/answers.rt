@@ -1,19 +1,12 @@
-// What the calls of a line answer.
+// What the calls of a line answer where they refuse.
 ghost use Rattle.std.specs.Prelude.{◌≡◌};
 ghost use Rattle.line.specs.Answers.{feed_number, take_number};
-
-// The first reading that waits, or that none waits yet.
-#[derive(Clone, Copy, PartialEq, Debug)]
-pub enum Next {
-    Reading(i32),
-    NotYet,
-}
 
 // Why a reading is not accepted.
 #[derive(Clone, Copy, PartialEq, Debug)]
 pub enum FeedRefusal {
     // as many readings wait as may
-    Full,
+    Full = 51,
 }
 
 // Why a send is not accepted. It has no number: who sends keeps the number and sends it again later.
@@ -27,16 +20,14 @@ pub enum SendRefusal {
 #[derive(Clone, Copy, PartialEq, Debug)]
 pub enum TakeRefusal {
     // no send waits
-    Empty,
+    Empty = 52,
 }
 
 impl FeedRefusal {
     pub fn number(self) -> u8
         ensures { result ≡ feed_number self }
     {
-        match self {
-            FeedRefusal::Full => 51,
-        }
+        self as u8
     }
 }
 
@@ -44,8 +35,6 @@ impl TakeRefusal {
     pub fn number(self) -> u8
         ensures { result ≡ take_number self }
     {
-        match self {
-            TakeRefusal::Empty => 52,
-        }
+        self as u8
     }
 }

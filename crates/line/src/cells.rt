@@ -1,10 +1,18 @@
 // Places, numbered from 0, that each hold a number.
-ghost use Rattle.std.specs.Prelude.{◌≡◌, ℕ, ◌<◌, ◌≢◌, ℤ};
-ghost use Rattle.line.specs.Cells.{number_cell};
+ghost use Rattle.std.specs.Prelude.{◌≡◌, ℕ, ◌<◌, ◌≤◌, ◌≢◌, ℤ, pos};
 
-pub trait Cells<const SIZE: usize> {
+pub trait Cells {
+    // how many places there are
+    const SIZE: usize;
+
+    ghost SIZE: { ℕ };
+
     // the number in a place
     ghost cell: { Self → ℕ → ℤ };
+
+    // Places that all hold 0.
+    fn new() -> Self
+        ensures { (k : ℕ) → k < SIZE → cell result k ≡ pos 0 };
 
     fn read(&self, place: usize) -> i32
         requires { place < SIZE }
@@ -14,30 +22,6 @@ pub trait Cells<const SIZE: usize> {
         requires { place < SIZE }
         ensures here { cell self.new place ≡ number }
         ensures elsewhere { (k : ℕ) → k ≢ place → cell self.new k ≡ cell self.old k };
-}
 
-// An element of an array for each place.
-#[derive(Drop)]
-pub struct Numbers<const SIZE: usize> {
-    elements: [i32; SIZE],
-}
-
-impl<const SIZE: usize> Numbers<SIZE> {
-    pub fn new() -> Numbers<SIZE> {
-        Numbers {
-            elements: [0; SIZE],
-        }
-    }
-}
-
-impl<const SIZE: usize> Cells<SIZE> for Numbers<SIZE> {
-    ghost cell = { number_cell };
-
-    fn read(&self, place: usize) -> i32 {
-        self.elements[place]
-    }
-
-    fn write(&mut self, place: usize, number: i32) {
-        self.elements[place] = number;
-    }
+    ghost size_positive: { 1 ≤ SIZE };
 }

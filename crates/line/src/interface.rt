@@ -1,9 +1,9 @@
 // What a line is: two lists of numbers, the readings that wait and the sends that wait, and a limit for each.
 ghost use Rattle.std.specs.Prelude.{◌≡◌, ℕ, ◌≤◌, List, length, ℤ};
-ghost use Rattle.line.specs.Queues.{enqueued, dequeued};
-ghost use Rattle.line.specs.Answers.{feed_answer, next_answer, send_answer, take_answer};
+ghost use Rattle.line.specs.Queues.{first, enqueued, dequeued};
+ghost use Rattle.line.specs.Answers.{feed_answer, send_answer, take_answer};
 
-use crate::answers::{FeedRefusal, Next, SendRefusal, TakeRefusal};
+use crate::answers::{FeedRefusal, SendRefusal, TakeRefusal};
 
 // The limits belong to the type, so no call changes them.
 pub trait Line {
@@ -21,9 +21,9 @@ pub trait Line {
         ensures readings { readings self.new ≡ enqueued max_readings number (readings self.old) }
         ensures sends { sends self.new ≡ sends self.old };
 
-    // Removes and gives the first reading.
-    fn next(&mut self) -> Next
-        ensures answer { result ≡ next_answer (readings self.old) }
+    // Removes and gives the first reading, or None where none waits yet.
+    fn next(&mut self) -> Option<i32>
+        ensures answer { result ≡ first (readings self.old) }
         ensures readings { readings self.new ≡ dequeued (readings self.old) }
         ensures sends { sends self.new ≡ sends self.old };
 

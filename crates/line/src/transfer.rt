@@ -1,22 +1,8 @@
 // Many numbers at once, over any line.
 ghost use Rattle.std.specs.Prelude.{◌≡◌, ◌++◌, length, take, drop};
-ghost use Rattle.line.specs.Queues.{accepts, enqueued};
 ghost use Rattle.line.specs.Transfers.{accepted_count, removed_count};
 
-use crate::answers::Next;
 use crate::interface::Line;
-
-// Feeds a number, and says whether it was accepted.
-fn feed_one<L: Line>(line: &mut L, number: i32) -> bool
-    ensures answer { result ≡ accepts L.Line.max_readings (L.Line.readings line.old) }
-    ensures readings { L.Line.readings line.new ≡ enqueued L.Line.max_readings number (L.Line.readings line.old) }
-    ensures sends { L.Line.sends line.new ≡ L.Line.sends line.old }
-{
-    match line.feed(number) {
-        Ok(()) => true,
-        Err(_) => false,
-    }
-}
 
 // Feeds numbers in their order until one is refused, and says how many were accepted.
 pub fn feed_all<L: Line>(line: &mut L, numbers: &[i32]) -> usize
@@ -25,7 +11,7 @@ pub fn feed_all<L: Line>(line: &mut L, numbers: &[i32]) -> usize
     ensures sends { L.Line.sends line.new ≡ L.Line.sends line.old }
 {
     for (i, number) in numbers.iter().enumerate() {
-        if !feed_one(line, *number) {
+        if line.feed(*number).is_err() {
             return i;
         }
     }
@@ -39,13 +25,11 @@ pub fn next_all<L: Line>(line: &mut L, places: &mut [i32]) -> usize
     ensures readings { L.Line.readings line.new ≡ drop result (L.Line.readings line.old) }
     ensures sends { L.Line.sends line.new ≡ L.Line.sends line.old }
 {
-    let mut count = 0;
-    while count < places.len() {
-        let Next::Reading(number) = line.next() else {
+    for (count, place) in places.iter_mut().enumerate() {
+        let Some(number) = line.next() else {
             return count;
         };
-        places[count] = number;
-        count += 1;
+        *place = number;
     }
-    count
+    places.len()
 }

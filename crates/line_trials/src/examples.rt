@@ -1,8 +1,6 @@
 // Worked examples of numbers in registers.
 ghost use Rattle.line_trials.specs.Examples.{Bytes};
 
-pub fn worked_examples() -> u8
+pub fn worked_examples()
     ensures { Bytes }
-{
-    0
-}
+{}

@@ -1,5 +1,5 @@
 // What every make of line does. Each trial is tried on both.
-use line::answers::{FeedRefusal, Next, SendRefusal, TakeRefusal};
+use line::answers::{FeedRefusal, SendRefusal, TakeRefusal};
 use line::interface::Line;
 use line::registers::RegisterLine;
 use line::ring::Ring;
@@ -14,9 +14,9 @@ fn readings_to_the_limit<L: Line + Drop>(rt: &impl Abort, mut line: L, limit: i3
     assert_eq!(rt; line.feed(limit), Err(FeedRefusal::Full));
     assert_eq!(rt; line.take(), Err(TakeRefusal::Empty));
     for number in 0..limit {
-        assert_eq!(rt; line.next(), Next::Reading(number));
+        assert_eq!(rt; line.next(), Some(number));
     }
-    assert_eq!(rt; line.next(), Next::NotYet);
+    assert_eq!(rt; line.next(), None);
 }
 
 fn sends_to_the_limit<L: Line + Drop>(rt: &impl Abort, mut line: L, limit: i32) {
@@ -24,7 +24,7 @@ fn sends_to_the_limit<L: Line + Drop>(rt: &impl Abort, mut line: L, limit: i32) 
         assert_eq!(rt; line.send(number), Ok(()));
     }
     assert_eq!(rt; line.send(limit), Err(SendRefusal::Full));
-    assert_eq!(rt; line.next(), Next::NotYet);
+    assert_eq!(rt; line.next(), None);
     for number in 0..limit {
         assert_eq!(rt; line.take(), Ok(number));
     }
@@ -38,7 +38,7 @@ fn all_the_way_round<L: Line + Drop>(rt: &impl Abort, mut line: L) {
         assert_eq!(rt; line.send(number), Ok(()));
     }
     for number in 0..200 {
-        assert_eq!(rt; line.next(), Next::Reading(number));
+        assert_eq!(rt; line.next(), Some(number));
         assert_eq!(rt; line.feed(number + 50), Ok(()));
         assert_eq!(rt; line.take(), Ok(number));
         assert_eq!(rt; line.send(number + 50), Ok(()));

@@ -1,9 +1,9 @@
 // A queue's calls.
-ghost use Rattle.std.specs.Prelude.{◌≡◌, ℕ, ◌+◌, ◌-◌, ◌<◌, ◌≤◌, ◌≢◌, [], ℤ, nat_lt};
-ghost use Rattle.line.specs.Queues.{accepts, first, enqueued, dequeued};
-ghost use Rattle.line.specs.Places.{place, waiting};
+ghost use Rattle.std.specs.Prelude.{◌≡◌, ℕ, ◌+◌, ◌-◌, ◌<◌, ◌≤◌, []};
+ghost use Rattle.line.specs.Queues.{accepts, if_room, first, enqueued, dequeued};
+ghost use Rattle.line.specs.Places.{place};
 
-use super::Queue;
+use super::{Full, Queue};
 use crate::cells::Cells;
 
 // Of the places 0 to size - 1, the one that comes count after head, the first again after the last.
@@ -20,69 +20,48 @@ fn place_after(size: usize, head: usize, count: usize) -> usize
     }
 }
 
-impl<C: Cells<SIZE>, const SIZE: usize> Queue<C, SIZE> {
-    pub fn new(cells: C) -> Queue<C, SIZE>
-        requires { 0 < SIZE }
-        ensures { waiting C.Cells.cell result ≡ [] }
+impl<C: Cells> Queue<C> {
+    pub fn new() -> Queue<C>
+        ensures { result ≡ [] }
     {
         Queue {
-            cells,
+            cells: C::new(),
             head: 0,
             len: 0,
         }
     }
 
     pub fn has_room(&self) -> bool
-        ensures { result ≡ nat_lt self.now.len SIZE }
+        ensures { result ≡ accepts C.SIZE self.now }
     {
-        self.len < SIZE
+        self.len < C::SIZE
     }
 
-    fn append(&mut self, number: i32)
-        requires { self.old.len < SIZE }
-        ensures here { C.Cells.cell self.new.cells (place SIZE self.old.head self.old.len) ≡ number }
-        ensures elsewhere { (k : ℕ) → k ≢ place SIZE self.old.head self.old.len → C.Cells.cell self.new.cells k ≡ C.Cells.cell self.old.cells k }
-        ensures head { self.new.head ≡ self.old.head }
-        ensures len { self.new.len ≡ self.old.len + 1 }
-    {
-        let end = place_after(SIZE, self.head, self.len);
-        self.cells.write(end, number);
-        self.len += 1;
-    }
-
-    fn remove(&mut self) -> i32
-        requires { 0 < self.old.len }
-        ensures number { result ≡ C.Cells.cell self.old.cells self.old.head }
-        ensures cells { self.new.cells ≡ self.old.cells }
-        ensures head { self.new.head ≡ place SIZE self.old.head 1 }
-        ensures len { self.new.len ≡ self.old.len - 1 }
-    {
-        let number = self.cells.read(self.head);
-        self.head = place_after(SIZE, self.head, 1);
-        self.len -= 1;
-        number
-    }
-
-    // Adds a last number, and says whether there was room.
-    pub fn push(&mut self, number: i32) -> bool
-        ensures answer { result ≡ accepts SIZE (waiting C.Cells.cell self.old) }
-        ensures after { waiting C.Cells.cell self.new ≡ enqueued SIZE number (waiting C.Cells.cell self.old) }
+    // Adds a last number, where there is room.
+    pub fn push(&mut self, number: i32) -> Result<(), Full>
+        ensures answer { result ≡ if_room C.SIZE self.old (record {}) }
+        ensures after { self.new ≡ enqueued C.SIZE number self.old }
     {
         if !self.has_room() {
-            return false;
+            return Err(Full);
         }
-        self.append(number);
-        true
+        let end = place_after(C::SIZE, self.head, self.len);
+        self.cells.write(end, number);
+        self.len += 1;
+        Ok(())
     }
 
     // Removes and gives the first number.
     pub fn pop(&mut self) -> Option<i32>
-        ensures answer { result ≡ first (waiting C.Cells.cell self.old) }
-        ensures after { waiting C.Cells.cell self.new ≡ dequeued (waiting C.Cells.cell self.old) }
+        ensures answer { result ≡ first self.old }
+        ensures after { self.new ≡ dequeued self.old }
     {
         if self.len == 0 {
             return None;
         }
-        Some(self.remove())
+        let number = self.cells.read(self.head);
+        self.head = place_after(C::SIZE, self.head, 1);
+        self.len -= 1;
+        Some(number)
     }
 }

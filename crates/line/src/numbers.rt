@@ -1,0 +1,37 @@
+// 64 numbers, each in an element of an array.
+ghost use Rattle.line.specs.Cells.{number_cell};
+ghost use Rattle.line.specs.declared.numbers.TheConstants.{NUMBERS};
+ghost use Rattle.std.proofs.Common.{rules};
+
+use crate::cells::Cells;
+
+const NUMBERS: usize = 64;
+
+#[derive(Drop)]
+pub struct Numbers {
+    elements: [i32; NUMBERS],
+}
+
+impl Cells for Numbers {
+    const SIZE: usize = NUMBERS;
+
+    ghost SIZE = { NUMBERS };
+
+    ghost cell = { number_cell };
+
+    ghost size_positive = { Prim.search rules };
+
+    fn new() -> Self {
+        Numbers {
+            elements: [0; NUMBERS],
+        }
+    }
+
+    fn read(&self, place: usize) -> i32 {
+        self.elements[place]
+    }
+
+    fn write(&mut self, place: usize, number: i32) {
+        self.elements[place] = number;
+    }
+}

@@ -41,8 +41,8 @@ all_said (e ∷ es) h =
     let q = and_parts (known e) (are_known es) h in
     ap (λ (o : Option Coded). o ∷ map coded_of es) (some_value (coded_of e) q.0) ∙ ap (λ (l : List (Option Coded)). Some (said e) ∷ l) (all_said es q.1)
 
--- the first n entries, by the bounds that a slice of them has
-module _ (t : List CodeEntry) (code : List Coded) (n : ℕ) (e : code ≡ said_by_all (take (n - 0) t) ++ replicate (2048 - length (take (n - 0) t)) blank_coded) (o : mounting t n ≡ mounts) where
+-- the first n entries
+module _ (t : List CodeEntry) (code : List Coded) (n : ℕ) (e : code ≡ said_by_all (take n t) ++ replicate (2048 - length (take n t)) blank_coded) (o : mounting t n ≡ mounts) where
   long : length (take n t) ≡ n
   long = length-take-le n t (mountable t n o).within
 
@@ -50,9 +50,7 @@ module _ (t : List CodeEntry) (code : List Coded) (n : ℕ) (e : code ≡ said_b
   long_said = length-map (take n t) said ∙ long
 
   whole : code ≡ said_by_all (take n t) ++ replicate (2048 - n) blank_coded
-  whole =
-      let from : n - 0 ≡ n = omega arith in
-      e ∙ ap (λ (k : ℕ). said_by_all (take k t) ++ replicate (2048 - length (take k t)) blank_coded) from ∙ ap (λ (k : ℕ). said_by_all (take n t) ++ replicate (2048 - k) blank_coded) long
+  whole = e ∙ ap (λ (k : ℕ). said_by_all (take n t) ++ replicate (2048 - k) blank_coded) long
 
   pub code_is : take n code ≡ said_by_all (take n t)
   code_is = ap (take n) whole ∙ take_at (said_by_all (take n t)) _ n long_said

@@ -1,5 +1,5 @@
 -- How long the code is, at most two instructions a node; and that its targets and cells exist.
-use Rattle.std.specs.Prelude.{◌≡◌, ℕ, suc, ◌+◌, ◌*◌, ◌≤◌, Bool, true, ◌&&◌, List, [], ◌∷◌, length, nat_le}
+use Rattle.std.specs.Prelude.{◌≡◌, ℕ, suc, ◌+◌, ◌*◌, ◌≤◌, Bool, true, List, length, nat_le}
 use Rattle.std.specs.List.{list_all}
 use Rattle.tosca.specs.Trees.{Expr, const, var, uny, bin, Cmd, skip, assign, seq, choice, loop, input, output, Program}
 use Rattle.aida.specs.declared.instructions.Instruction.{Instruction}

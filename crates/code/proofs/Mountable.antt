@@ -1,5 +1,5 @@
 -- A table that passes the questions, and the code that is made of it.
-use Rattle.std.proofs.Common.{◌≡◌, ℕ, ◌-◌, ◌≤◌, Bool, true, false, cond, leb, List, [], ◌∷◌, ◌++◌, map, length, take, drop, replicate, is_some, Some, None, Option, unwrap_or, sym, refl, ap, ◌∙◌, arith}
+use Rattle.std.proofs.Common.{◌≡◌, ℕ, ◌-◌, ◌≤◌, Bool, true, false, cond, leb, List, [], ◌∷◌, ◌++◌, map, length, take, drop, replicate, is_some, Some, None, Option, unwrap_or, sym, refl, ap, ◌∙◌}
 use Rattle.std.proofs.lemmas.List.{take_at, drop_at, length-map, length-take-le}
 use Rattle.std.proofs.lemmas.Bool.{and_parts, leb-true}
 use Rattle.aida.specs.declared.instructions.Coded.{Coded}
@@ -10,7 +10,7 @@ use Rattle.code.specs.Questions.{blank_coded, said, said_by_all, counted, known,
 
 -- a table mounts if every question has a yes
 never : (n : ℕ) → refused n ≡ mounts → ⊥
-never n e = let z : ◌≡◌ {A = ℕ} 0 1 = cc in omega arith
+never n e = cc
 
 passed : (c k w : Bool) → cond c (cond k (cond w mounts (refused 43)) (refused 42)) (refused 41) ≡ mounts → (c ≡ true) × (k ≡ true) × (w ≡ true)
 passed false k w e = absurd (never 41 e)
@@ -32,7 +32,7 @@ mountable t n e =
 
 some_value : (o : Option Coded) → is_some o ≡ true → o ≡ Some (unwrap_or o blank_coded)
 some_value (Some i) h = refl
-some_value None h = let z : ◌≡◌ {A = ℕ} 0 1 = cc in absurd (omega arith)
+some_value None h = absurd (cc)
 
 -- known entries say instructions
 all_said : (es : List CodeEntry) → are_known es ≡ true → map coded_of es ≡ map (λ (i : Coded). Some i) (said_by_all es)

@@ -1,4 +1,4 @@
-// The symbols of the grammar, grouped by the part that they play in it.
+// The symbols of the grammar, grouped by the part that they play in it. That of an operator becomes the operator.
 ghost use Rattle.std.specs.Prelude.{◌≡◌, Some};
 ghost use Rattle.grammar.specs.Building.{mul_op, add_op, rel_op};
 ghost use Rattle.grammar.specs.Spelling.{spelled};
@@ -13,7 +13,6 @@ pub enum Multiplying {
     And,
 }
 
-// The operator that the symbol stands for.
 impl From<Multiplying> for Binary {
     ghost from_gives = { λ symbol op. op ≡ mul_op symbol };
 
@@ -33,7 +32,6 @@ pub enum Adding {
     Or,
 }
 
-// The operator that the symbol stands for.
 impl From<Adding> for Binary {
     ghost from_gives = { λ symbol op. op ≡ add_op symbol };
 
@@ -53,7 +51,6 @@ pub enum Relation {
     Greater,
 }
 
-// The operator that the symbol stands for.
 impl From<Relation> for Binary {
     ghost from_gives = { λ symbol op. op ≡ rel_op symbol };
 

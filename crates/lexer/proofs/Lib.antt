@@ -7,3 +7,4 @@ pub mod Numbering
 pub mod Cutting
 pub mod Spelled
 pub mod Longer
+pub mod Comments

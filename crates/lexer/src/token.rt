@@ -2,6 +2,7 @@
 ghost use Rattle.std.specs.Prelude.{◌≡◌};
 ghost use Rattle.lexer.specs.Lexemes.{number_of};
 
+use crate::cursor::Cursor;
 use grammar::symbols::{Mark, Operator, Prefix, Start};
 use tosca::operators::SimpleType;
 
@@ -21,13 +22,12 @@ pub enum Token<'a> {
     Unused,
 }
 
-// A token with its place, what stands after it, and the place of that.
+// A token with its place, and where the text goes on.
 #[derive(Clone, Copy)]
 pub struct Lexeme<'a> {
     pub token: Token<'a>,
     pub place: usize,
-    pub rest: &'a [u8],
-    pub after: usize,
+    pub end: Cursor<'a>,
 }
 
 // The questions that a text is asked.

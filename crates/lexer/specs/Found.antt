@@ -1,9 +1,9 @@
 -- What the program's functions find: perhaps a token, perhaps the end of a gap.
-use Rattle.std.specs.Prelude.{◌≡◌, ℕ, ◌+◌, ◌≤◌, cond, List, [], ◌∷◌, length, Some, None, Ok, Err, Option, Result}
+use Rattle.std.specs.Prelude.{◌≡◌, ℕ, ◌≤◌, cond, List, [], ◌∷◌, length, Some, None, Ok, Err, Option, Result}
 use Rattle.grammar.specs.Tokens.{Tok}
 use Rattle.lexer.specs.declared.token.Token.{Token}
 use Rattle.lexer.specs.declared.token.Refusal.{Refusal}
-use Rattle.lexer.specs.declared.lexing.Cursor.{Cursor}
+use Rattle.lexer.specs.declared.cursor.Cursor.{Cursor}
 use Rattle.lexer.specs.declared.words.ReservedWord.{ReservedWord}
 use Rattle.lexer.specs.Spelling.{lowered, same}
 use Rattle.lexer.specs.Lexemes.{Raw, other, meant, Gap, gap, unclosed, inside, skip_in, skip, number_of}
@@ -43,5 +43,5 @@ Refuses n (Err e) = number_of e.question ≡ n
 
 -- the comment that p and bs are inside of ends, and skipping goes on after it; or it never ends
 abbrev pub Closes : ℕ → List ℕ → Option Cursor → Type 0
-Closes p bs (Some c) = ((o : ℕ) → skip_in (inside o) p bs ≡ skip c.place c.rest.now) × (c.place + length c.rest.now ≤ p + length bs) × (length c.rest.now ≤ length bs)
+Closes p bs (Some c) = ((o : ℕ) → skip_in (inside o) p bs ≡ skip c.place c.rest.now) × (length c.rest.now ≤ length bs)
 Closes p bs None = (o : ℕ) → skip_in (inside o) p bs ≡ unclosed o

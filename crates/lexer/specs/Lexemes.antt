@@ -70,7 +70,7 @@ pub data Lexed : Type 0 where
   none : ℕ → ℕ → Lexed
 
 abbrev pub lex_meant : Result Lexeme Refusal → Lexed
-lex_meant (Ok l) = lexeme (meant l.token) l.place l.after l.rest.now
+lex_meant (Ok l) = lexeme (meant l.token) l.place l.end.place l.end.rest.now
 lex_meant (Err e) = none (number_of e.question) e.place
 
 abbrev pub symbol_or : ℕ → List ℕ → Option Tok → Lexed

@@ -1,73 +1,18 @@
 // The token at the front of a text.
-ghost use Rattle.std.specs.Prelude.{◌≡◌, ◌+◌, ◌^◌, ◌<◌, ◌≤◌, length, IfOk, Ok};
+ghost use Rattle.std.specs.Prelude.{◌≡◌, ◌+◌, ◌≤◌, length, drop, Ok, position, ◌==◌};
 ghost use Rattle.lexer.specs.Words.{symbol};
-ghost use Rattle.lexer.specs.Lexemes.{lex_meant, skip, symbol_at, word_at, number_at, lex};
+ghost use Rattle.lexer.specs.Lexemes.{meant, number_of, lex_meant, lexeme, skip, symbol_at, word_at, number_at, lex};
 ghost use Rattle.lexer.specs.Found.{meant_some, others, gap_meant, Closes, Refuses};
 ghost use Rattle.lexer.specs.Limited.{asked};
 
-use crate::bytes::{Class, decimal, is_blank, is_digit, is_letter, run_length};
+use crate::bytes::{decimal, digit_count, is_blank, word_length};
+use crate::cursor::Cursor;
 use crate::token::{Lexeme, Question, Refusal, Token};
 use crate::words::word_token;
 use grammar::symbols::{Adding, Mark, Multiplying, Operator, Prefix, Relation};
 
-// What is left of a text, and its place.
-#[derive(Clone, Copy)]
-struct Cursor<'a> {
-    rest: &'a [u8],
-    place: usize,
-}
-
-// What stands after the comment that `text` is inside of, or nothing where it is not closed.
-fn after_comment<'a>(text: &'a [u8], place: usize) -> Option<Cursor<'a>>
-    requires { place + length text.now < 2 ^ 32 }
-    ensures { Closes place text.now result }
-{
-    let mut rest = text;
-    let mut at = place;
-    loop {
-        match rest {
-            [] => return None,
-            [b'}', more @ ..] => return Some(Cursor {
-                rest: more,
-                place: at + 1,
-            }),
-            [_, more @ ..] => {
-                rest = more;
-                at += 1;
-            }
-        }
-    }
-}
-
-// Passes blanks and comments.
-fn skip_gap<'a>(text: &'a [u8], place: usize) -> Result<Cursor<'a>, Refusal>
-    requires { place + length text.now < 2 ^ 32 }
-    ensures is { gap_meant result ≡ skip place text.now }
-    ensures within { IfOk result (λ c. c.place + length c.rest.now ≤ place + length text.now) }
-    ensures question { Refuses 2 result }
-{
-    let mut rest = text;
-    let mut at = place;
-    loop {
-        match rest {
-            [b, more @ ..] if is_blank(*b) => {
-                rest = more;
-                at += 1;
-            }
-            [b'{', more @ ..] => match after_comment(more, at + 1) {
-                Some(end) => {
-                    rest = end.rest;
-                    at = end.place;
-                }
-                None => return Err(Refusal {
-                    question: Question::Token,
-                    place: at,
-                }),
-            },
-            _ => return Ok(Cursor { rest, place: at }),
-        }
-    }
-}
+// The most bytes of a name.
+const NAME_LENGTH: usize = 16;
 
 // The token that a character is by itself.
 fn symbol_token(b: u8) -> Option<Token<'static>>
@@ -91,106 +36,119 @@ fn symbol_token(b: u8) -> Option<Token<'static>>
     }
 }
 
-// The symbol at the front; the end of the text is one too.
-fn symbol_lexeme<'a>(text: &'a [u8], place: usize) -> Result<Lexeme<'a>, Refusal>
-    requires { place + length text.now < 2 ^ 32 }
-    ensures { lex_meant result ≡ symbol_at place text.now }
+// Where the comment closes that `text` is inside of.
+fn comment_end(text: &[u8]) -> Option<usize>
+    ensures { result ≡ position (λ b. b == 125) text.now }
 {
-    match text {
-        [] => Ok(Lexeme {
-            token: Token::Mark(Mark::Stop),
-            place,
-            rest: text,
-            after: place,
-        }),
-        [b':', b'=', rest @ ..] => Ok(Lexeme {
-            token: Token::Mark(Mark::Becomes),
-            place,
-            rest,
-            after: place + 2,
-        }),
-        [b, rest @ ..] => match symbol_token(*b) {
-            Some(token) => Ok(Lexeme {
-                token,
-                place,
-                rest,
-                after: place + 1,
-            }),
-            None => Err(Refusal {
-                question: Question::Token,
-                place,
-            }),
-        },
-    }
+    text.iter().position(|b| *b == b'}')
 }
 
-// A word is a letter and all letters and digits after it.
-fn word_lexeme<'a>(text: &'a [u8], place: usize) -> Lexeme<'a>
-    requires { place + length text.now < 2 ^ 32 }
-    ensures { lex_meant (Ok result) ≡ word_at place text.now }
-{
-    let n = run_length(text, Class::Alphanumeric);
-    let (word, rest) = text.split_at(n);
-    Lexeme {
-        token: word_token(word),
-        place,
-        rest,
-        after: place + n,
+impl<'a> Cursor<'a> {
+    // What stands after the comment that the cursor is inside of, or nothing where it is not closed.
+    fn after_comment(self) -> Option<Cursor<'a>>
+        ensures { Closes self.entry.place self.entry.rest.now result }
+    {
+        let n = comment_end(self.rest)?;
+        Some(self.advanced(n + 1))
     }
-}
 
-// A number is digits that no letter touches.
-fn number_lexeme<'a>(text: &'a [u8], place: usize) -> Result<Lexeme<'a>, Refusal>
-    requires { place + length text.now < 2 ^ 32 }
-    ensures { lex_meant result ≡ number_at place text.now }
-{
-    let n = run_length(text, Class::Digit);
-    let (digits, rest) = text.split_at(n);
-    match rest {
-        [b, ..] if is_letter(*b) => Err(Refusal {
+    // Passes blanks and comments.
+    fn skip_gap(self) -> Result<Cursor<'a>, Refusal>
+        ensures is { gap_meant result ≡ skip self.entry.place self.entry.rest.now }
+        ensures question { Refuses 2 result }
+    {
+        let mut at = self;
+        loop {
+            match at.rest {
+                [b, ..] if is_blank(*b) => at = at.advanced(1),
+                [b'{', ..] => at = at.advanced(1).after_comment().ok_or(at.no_token())?,
+                _ => return Ok(at),
+            }
+        }
+    }
+
+    // No token stands here.
+    fn no_token(self) -> Refusal
+        ensures question { number_of result.question ≡ 2 }
+        ensures place { result.place ≡ self.entry.place }
+    {
+        Refusal {
             question: Question::Token,
-            place,
-        }),
-        _ => Ok(Lexeme {
-            token: Token::Number(digits),
-            place,
-            rest,
-            after: place + n,
-        }),
+            place: self.place,
+        }
     }
-}
 
-// The token at the front of `text`, which begins at `place`, after blanks and comments.
-pub fn next_token<'a>(text: &'a [u8], place: usize) -> Result<Lexeme<'a>, Refusal>
-    requires { place + length text.now < 2 ^ 32 }
-    ensures { lex_meant result ≡ lex place text.now }
-{
-    let end = skip_gap(text, place)?;
-    match end.rest {
-        [b, ..] if is_letter(*b) => Ok(word_lexeme(end.rest, end.place)),
-        [b, ..] if is_digit(*b) => number_lexeme(end.rest, end.place),
-        _ => symbol_lexeme(end.rest, end.place),
+    // The token of the next n bytes.
+    fn lexeme(self, token: Token<'a>, n: usize) -> Lexeme<'a>
+        requires { n ≤ length self.rest.now }
+        ensures { lex_meant (Ok result) ≡ lexeme (meant token.entry) self.entry.place (self.entry.place + n) (drop n self.entry.rest.now) }
+    {
+        Lexeme {
+            token,
+            place: self.place,
+            end: self.advanced(n),
+        }
     }
-}
 
-// The most bytes of a name.
-const NAME_LENGTH: usize = 16;
+    // The symbol at the front; the end of the text is one too.
+    fn symbol(self) -> Result<Lexeme<'a>, Refusal>
+        ensures { lex_meant result ≡ symbol_at self.entry.place self.entry.rest.now }
+    {
+        match self.rest {
+            [] => Ok(self.lexeme(Token::Mark(Mark::Stop), 0)),
+            [b':', b'=', ..] => Ok(self.lexeme(Token::Mark(Mark::Becomes), 2)),
+            [b, ..] => {
+                let token = symbol_token(*b).ok_or(self.no_token())?;
+                Ok(self.lexeme(token, 1))
+            }
+        }
+    }
 
-// The same, where the token keeps the limits on names and numbers.
-pub fn next_limited<'a>(text: &'a [u8], place: usize) -> Result<Lexeme<'a>, Refusal>
-    requires { place + length text.now < 2 ^ 32 }
-    ensures { lex_meant result ≡ asked (lex place text.now) }
-{
-    let lexeme = next_token(text, place)?;
-    match lexeme.token {
-        Token::Name(name) if name.len() > NAME_LENGTH => Err(Refusal {
-            question: Question::NameLength,
+    // A word is a letter and all letters and digits after it.
+    fn word(self) -> Lexeme<'a>
+        ensures { lex_meant (Ok result) ≡ word_at self.entry.place self.entry.rest.now }
+    {
+        let n = word_length(self.rest);
+        self.lexeme(word_token(&self.rest[..n]), n)
+    }
+
+    // A number is digits that no letter touches.
+    fn number(self) -> Result<Lexeme<'a>, Refusal>
+        ensures { lex_meant result ≡ number_at self.entry.place self.entry.rest.now }
+    {
+        let n = digit_count(self.rest);
+        let (digits, rest) = self.rest.split_at(n);
+        match rest {
+            [b, ..] if b.is_ascii_alphabetic() => Err(self.no_token()),
+            _ => Ok(self.lexeme(Token::Number(digits), n)),
+        }
+    }
+
+    // The token at the front, after blanks and comments.
+    pub fn next_token(self) -> Result<Lexeme<'a>, Refusal>
+        ensures { lex_meant result ≡ lex self.entry.place self.entry.rest.now }
+    {
+        let at = self.skip_gap()?;
+        match at.rest {
+            [b, ..] if b.is_ascii_alphabetic() => Ok(at.word()),
+            [b, ..] if b.is_ascii_digit() => at.number(),
+            _ => at.symbol(),
+        }
+    }
+
+    // The same, where the token keeps the limits on names and numbers.
+    pub fn next_limited(self) -> Result<Lexeme<'a>, Refusal>
+        ensures { lex_meant result ≡ asked (lex self.entry.place self.entry.rest.now) }
+    {
+        let lexeme = self.next_token()?;
+        let question = match lexeme.token {
+            Token::Name(name) if name.len() > NAME_LENGTH => Question::NameLength,
+            Token::Number(digits) if decimal(digits).is_none() => Question::NumberSize,
+            _ => return Ok(lexeme),
+        };
+        Err(Refusal {
+            question,
             place: lexeme.place,
-        }),
-        Token::Number(digits) if decimal(digits).is_none() => Err(Refusal {
-            question: Question::NumberSize,
-            place: lexeme.place,
-        }),
-        _ => Ok(lexeme),
+        })
     }
 }

@@ -2,6 +2,7 @@
 ghost use Rattle.std.specs.Prelude.{◌≡◌};
 ghost use Rattle.lexer.specs.Lexemes.{number_of};
 
+use crate::cursor::Cursor;
 use grammar::symbols::{Mark, Operator, Prefix, Start};
 use tosca::operators::SimpleType;
 
@@ -21,19 +22,18 @@ pub enum Token<'a> {
     Unused,
 }
 
-// A token with its place, what stands after it, and the place of that.
+// A token with its place, and where the text goes on.
 #[derive(Clone, Copy)]
 pub struct Lexeme<'a> {
     pub token: Token<'a>,
     pub place: usize,
-    pub rest: &'a [u8],
-    pub after: usize,
+    pub end: Cursor<'a>,
 }
 
-// The questions that a text is asked.
+// The questions that a text is asked, with their numbers.
 #[derive(Clone, Copy, PartialEq, Debug)]
 pub enum Question {
-    TextLength,
+    TextLength = 1,
     Token,
     NameLength,
     NumberSize,
@@ -47,16 +47,7 @@ impl Question {
     pub fn number(self) -> u8
         ensures { result ≡ number_of self }
     {
-        match self {
-            Question::TextLength => 1,
-            Question::Token => 2,
-            Question::NameLength => 3,
-            Question::NumberSize => 4,
-            Question::Grammar => 5,
-            Question::Depth => 6,
-            Question::NameCount => 7,
-            Question::NodeCount => 8,
-        }
+        self as u8
     }
 }
 

@@ -1,73 +1,75 @@
--- One entry more, for the questions of the order of entries.
-use Rattle.std.proofs.Common.{◌≡◌, ℕ, ◌+◌, ◌-◌, ◌<◌, ◌≤◌, Bool, true, false, cond, not, ◌&&◌, eqb, List, [], ◌∷◌, length, get_or, drop, sym, refl, ap, ◌∙◌, add-one, arith}
-use mathlib.Core.Bool.{beq}
-use Rattle.std.proofs.lemmas.List.{at_drop_more, at_drop_all, length-drop}
-use Rattle.std.proofs.lemmas.Bool.{eq-eqb, ne_eqb, true≢false, false≢true}
+-- The questions of the order of entries, as tests of each entry.
+use Rattle.std.proofs.Common.{◌≡◌, ℕ, suc, ◌+◌, ◌-◌, ◌<◌, ◌≤◌, Bool, true, false, cond, not, ◌&&◌, ◌||◌, eqb, ◌⊎◌, inl, inr, List, [], ◌∷◌, ◌++◌, length, get_or, take, drop, min, sym, refl, ap, ◌∙◌, arith}
+use Rattle.std.specs.List.{list_all, list_any, prefix_len, zip}
+use Rattle.std.proofs.lemmas.List.{take_more, take_all}
+use Rattle.std.proofs.lemmas.Bool.{eq-eqb, ne_eqb, cases_eq}
 use Rattle.tosca.specs.declared.table.Entry.{Entry}
 use Rattle.tosca.specs.Table.{blank, node}
-use Rattle.tosca.specs.Opens.{sort, same_sort, is_decl, is_program, once, are_once, no_decl, decls_first, program_last}
+use Rattle.tosca.specs.Opens.{Sort, is_decl, is_expr, is_cmd, is_program, is_none, sort, same_sort, all_uses, once, are_once, no_decl, decls_first, program_last}
+use Rattle.draft.specs.Uses.{used_once}
 
-pub once_more : (t : List Entry) (i : ℕ) → i < length t → are_once t i (drop i t) ≡ (once t i (sort (node (get_or t i blank))) && are_once t (i + 1) (drop (i + 1) t))
-once_more t i h = at_drop_more (are_once t i) t i blank h ∙ rw add-one
+abbrev pub is : Sort → Entry → Bool
+is s e = same_sort (sort (node e)) s
 
-abbrev pub decl_at : List Entry → ℕ → Bool
-decl_at t i = same_sort (sort (node (get_or t i blank))) is_decl
+no_decl_all : (t : List Entry) → no_decl t ≡ list_all (λ e. not (is is_decl e)) t
+no_decl_all [] = refl
+no_decl_all (e ∷ t) = ap (λ b. not (is is_decl e) && b) (no_decl_all t)
 
--- what is left of the question of declarations: after another entry, there is none
-abbrev pub decls_left : Bool → List Entry → Bool
-decls_left others es = cond others (no_decl es) (decls_first es)
-
-pub decls_stop : (t : List Entry) (i : ℕ) (others : Bool) → i < length t → decls_first t ≡ decls_left others (drop i t) → true ≡ decl_at t i → others ≡ true → false ≡ decls_first t
-decls_stop t i false h inv d o = absurd (false≢true o)
-decls_stop t i true h inv d o = sym (inv ∙ at_drop_more no_decl t i blank h ∙ ap (λ b. not b && no_decl (drop (i + 1) t)) (sym d))
-
-pub decls_other : (t : List Entry) (i : ℕ) (others : Bool) → i < length t → decls_first t ≡ decls_left others (drop i t) → false ≡ decl_at t i → decls_first t ≡ no_decl (drop (i + 1) t)
-decls_other t i false h inv d = inv ∙ at_drop_more decls_first t i blank h ∙ ap (λ b. cond b (decls_first (drop (i + 1) t)) (no_decl (drop (i + 1) t))) (sym d)
-decls_other t i true h inv d = inv ∙ at_drop_more no_decl t i blank h ∙ ap (λ b. not b && no_decl (drop (i + 1) t)) (sym d)
-
-pub decls_decl : (t : List Entry) (i : ℕ) (others : Bool) → i < length t → decls_first t ≡ decls_left others (drop i t) → true ≡ decl_at t i → others ≡ false → decls_first t ≡ decls_first (drop (i + 1) t)
-decls_decl t i others h inv d o =
-    inv ∙ ap (λ b. decls_left b (drop i t)) o ∙ at_drop_more decls_first t i blank h ∙ ap (λ b. cond b (decls_first (drop (i + 1) t)) (no_decl (drop (i + 1) t))) (sym d)
-
-pub decls_all : (t : List Entry) (i : ℕ) (others : Bool) → length t ≤ i → decls_first t ≡ decls_left others (drop i t) → true ≡ decls_first t
-decls_all t i false h inv = sym (inv ∙ at_drop_all decls_first t i h)
-decls_all t i true h inv = sym (inv ∙ at_drop_all no_decl t i h)
-
-abbrev pub program_at : List Entry → ℕ → Bool
-program_at t i = same_sort (sort (node (get_or t i blank))) is_program
-
-program_more : (t : List Entry) (i : ℕ) → i < length t → program_last (drop i t) ≡ cond (eqb (i + 1) (length t)) (program_at t i) (not (program_at t i) && program_last (drop (i + 1) t))
-program_more t i h = at_drop_more program_last t i blank h ∙ go (drop (i + 1) t) (length-drop (i + 1) t)
+-- after the declarations there is none
+pub decls_skipped : (t : List Entry) → decls_first t ≡ list_all (λ e. not (is is_decl e)) (drop (prefix_len (is is_decl) t) t)
+decls_skipped [] = refl
+decls_skipped (e ∷ t) = go (is is_decl e) refl (decls_skipped t)
   where
-    go : (es : List Entry) → length es ≡ length t - (i + 1) → program_last (get_or t i blank ∷ es) ≡ cond (eqb (i + 1) (length t)) (program_at t i) (not (program_at t i) && program_last es)
-    go [] e = sym (ap (λ b. cond b (program_at t i) (not (program_at t i) && false)) (eq-eqb (i + 1) (length t) (omega arith)))
-    go (d ∷ es) e = sym (ap (λ b. cond b (program_at t i) (not (program_at t i) && program_last (d ∷ es))) (ne_eqb (i + 1) (length t) (λ q. omega arith)))
+    go : (b : Bool) → is is_decl e ≡ b → decls_first t ≡ list_all (λ d. not (is is_decl d)) (drop (prefix_len (is is_decl) t) t) → cond b (decls_first t) (no_decl t) ≡ list_all (λ d. not (is is_decl d)) (drop (cond b (1 + prefix_len (is is_decl) t) 0) (e ∷ t))
+    go true h r = let one : suc (prefix_len (is is_decl) t) ≡ 1 + prefix_len (is is_decl) t = omega arith in r ∙ ap (λ n. list_all (λ d. not (is is_decl d)) (drop n (e ∷ t))) one
+    go false h r = no_decl_all t ∙ sym (ap (λ b. not b && list_all (λ d. not (is is_decl d)) t) h)
 
-pub program_stop : (t : List Entry) (i : ℕ) (r : Bool) → i < length t → program_last t ≡ program_last (drop i t) → r ≡ program_at t i → not (beq r (eqb (i + 1) (length t))) ≡ true → false ≡ program_last t
-program_stop t i r h inv is differ = sym (inv ∙ program_more t i h ∙ ap (λ b. cond (eqb (i + 1) (length t)) b (not b && program_last (drop (i + 1) t))) (sym is) ∙ go r (eqb (i + 1) (length t)) differ)
+-- the last entry is a program, and none of the others is
+program_split : (others : List Entry) (last : Entry) → program_last (others ++ last ∷ []) ≡ (is is_program last && not (list_any (is is_program) others))
+program_split others last = go others
   where
-    go : (b l : Bool) → not (beq b l) ≡ true → cond l b (not b && program_last (drop (i + 1) t)) ≡ false
-    go true true d = sym d
-    go true false d = refl
-    go false true d = refl
-    go false false d = absurd (false≢true d)
+    step : (a b x y : Bool) → y ≡ (b && not x) → (not a && y) ≡ (b && not (a || x))
+    step true true x y e = refl
+    step true false x y e = refl
+    step false b x y e = e
 
-pub program_again : (t : List Entry) (i : ℕ) (r : Bool) → i < length t → program_last t ≡ program_last (drop i t) → r ≡ program_at t i → not (beq r (eqb (i + 1) (length t))) ≡ false → (i + 1 < length t → program_last t ≡ program_last (drop (i + 1) t)) × (i + 1 ≡ length t → 0 < i + 1 → program_last t ≡ true)
-program_again t i r h inv is same = (λ lt. left ∙ go r _ same (ne_eqb (i + 1) (length t) (λ q. omega arith)), λ end pos. left ∙ last r _ same (eq-eqb (i + 1) (length t) end))
+    all : (b : Bool) → b ≡ (b && true)
+    all true = refl
+    all false = refl
+
+    go : (es : List Entry) → program_last (es ++ last ∷ []) ≡ (is is_program last && not (list_any (is is_program) es))
+    go [] = all (is is_program last)
+    go (e ∷ []) = step (is is_program e) (is is_program last) false _ (all (is is_program last))
+    go (e ∷ d ∷ es) = step (is is_program e) (is is_program last) _ _ (go (d ∷ es))
+
+pub program_ends : (t : List Entry) → 1 ≤ length t → program_last t ≡ (is is_program (get_or t (length t - 1) blank) && not (list_any (is is_program) (take (length t - 1) t)))
+program_ends t h = ap program_last split ∙ program_split (take (length t - 1) t) (get_or t (length t - 1) blank)
   where
-    left : program_last t ≡ cond (eqb (i + 1) (length t)) r (not r && program_last (drop (i + 1) t))
-    left = inv ∙ program_more t i h ∙ ap (λ b. cond (eqb (i + 1) (length t)) b (not b && program_last (drop (i + 1) t))) (sym is)
+    split : t ≡ take (length t - 1) t ++ get_or t (length t - 1) blank ∷ []
+    split = sym (take_all (length t - 1 + 1) t (omega arith)) ∙ take_more t (length t - 1) blank (omega arith)
 
-    go : (b l : Bool) → not (beq b l) ≡ false → l ≡ false → cond l b (not b && program_last (drop (i + 1) t)) ≡ program_last (drop (i + 1) t)
-    go b true d e = absurd (true≢false e)
-    go true false d e = absurd (true≢false d)
-    go false false d e = refl
+-- by the counts of the uses, which stop at 255
+one_of : (u n : ℕ) → u ≡ min n 255 → eqb u 1 ≡ eqb n 1
+one_of u n h = go (cases_eq n 1)
+  where
+    go : (n ≡ 1) ⊎ (n ≡ 1 → ⊥) → eqb u 1 ≡ eqb n 1
+    go (inl e) = eq-eqb u 1 (omega arith) ∙ sym (eq-eqb n 1 e)
+    go (inr e) = ne_eqb u 1 (λ q. e (omega arith)) ∙ sym (ne_eqb n 1 e)
 
-    last : (b l : Bool) → not (beq b l) ≡ false → l ≡ true → cond l b (not b && program_last (drop (i + 1) t)) ≡ true
-    last b false d e = absurd (false≢true e)
-    last true true d e = refl
-    last false true d e = sym d
+counted_once : (t : List Entry) (k u : ℕ) (s : Sort) → u ≡ min (all_uses k t) 255 → used_once u s ≡ once t k s
+counted_once t k u is_expr h = one_of u (all_uses k t) h
+counted_once t k u is_cmd h = one_of u (all_uses k t) h
+counted_once t k u is_decl h = refl
+counted_once t k u is_program h = refl
+counted_once t k u is_none h = refl
 
-pub program_all : (t : List Entry) (k : ℕ) (r : Bool) → length t ≤ k → k ≤ length t → (k ≡ length t → 0 < k → program_last t ≡ true) → r ≡ eqb (length t) 0 → not r ≡ program_last t
-program_all [] k r le ge h is = ap not is
-program_all (e ∷ es) k r le ge h is = ap not (is ∙ ne_eqb (length (e ∷ es)) 0 (λ q. omega arith)) ∙ sym (h (omega arith) (omega arith))
+abbrev pub once_entry : Entry × ℕ → Bool
+once_entry p = used_once p.1 (sort (node p.0))
+
+pub once_each : (t : List Entry) (j : ℕ) (es : List Entry) (us : List ℕ) → length es ≤ length us → ((k : ℕ) → k < length us → get_or us k 0 ≡ min (all_uses (j + k) t) 255) → are_once t j es ≡ list_all once_entry (zip es us)
+once_each t j [] us le h = refl
+once_each t j (e ∷ es) [] le h = absurd (omega arith)
+once_each t j (e ∷ es) (u ∷ us) le h = λ i. here i && once_each t (suc j) es us (omega arith) (λ k lt. h (suc k) (omega arith) ∙ ap (λ n. min (all_uses n t) 255) (omega arith)) i
+  where
+    here : once t j (sort (node e)) ≡ once_entry (e, u)
+    here = sym (counted_once t j u (sort (node e)) (h 0 (omega arith) ∙ ap (λ n. min (all_uses n t) 255) (omega arith)))

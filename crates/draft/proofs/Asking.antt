@@ -1,34 +1,36 @@
--- One entry more, for the questions of known entries and of their parts.
-use Rattle.std.proofs.Common.{◌≡◌, ℕ, ◌+◌, ◌<◌, Bool, true, false, ◌&&◌, List, [], length, get_or, drop, Some, None, Option, sym, refl, ap, ◌∙◌, add-one}
-use Rattle.std.proofs.lemmas.List.{at_drop_more}
+-- The questions of known entries and of their parts, as tests of each entry and of each part.
+use Rattle.std.proofs.Common.{◌≡◌, ℕ, suc, Bool, true, false, ◌&&◌, List, [], ◌∷◌, map, sym, subst, refl, ap, ◌∙◌, add-one}
+use Rattle.std.specs.List.{list_all, enumerate_from}
+use Rattle.std.specs.Array.Iter.{array_into_iter_items, array_steps}
+use Rattle.std.specs.declared.array.IntoIter.{IntoIter}
+use Rattle.std.proofs.lemmas.Iterator.{YieldsList}
+use Rattle.std.proofs.lemmas.Iterator.Consumers.{YieldsList-from_shown}
 use Rattle.tosca.specs.declared.table.Entry.{Entry}
-use Rattle.tosca.specs.Table.{blank, node}
-use Rattle.tosca.specs.Opens.{Part, known, are_known, placed, are_placed, parts}
+use Rattle.tosca.specs.Table.{node}
+use Rattle.tosca.specs.Opens.{known, are_known, placed, are_placed, parts}
 use Rattle.draft.specs.declared.nodes.Part.{Part as NodePart}
-use Rattle.draft.specs.declared.nodes.Parts.{Parts}
-use Rattle.draft.specs.Nodes.{before, parts_of}
+use Rattle.draft.specs.Nodes.{part_of}
 
--- a scan stops at the first entry that fails, and goes on after one that passes
-pub stops : {p x : Bool} (y : Bool) → p ≡ (x && y) → false ≡ x → false ≡ p
-stops {p} {x} y e f = ap (λ v. v && y) f ∙ sym e
+pub known_all : (t : List Entry) → are_known t ≡ list_all known t
+known_all [] = refl
+known_all (e ∷ t) = ap (λ b. known e && b) (known_all t)
 
-pub goes_on : {p x y : Bool} → p ≡ (x && y) → true ≡ x → p ≡ y
-goes_on {p} {x} {y} e f = e ∙ sym (ap (λ v. v && y) f)
+-- an array's iterator, and one through the parts that there are
+pub YieldsList-from_array : {A : Type 0} {n : ℕ} {s : IntoIter A n} (xs : List A) → array_into_iter_items s ≡ xs → YieldsList array_steps (λ x. x) s xs
+YieldsList-from_array {A} {n} {s} xs e = subst (YieldsList array_steps (λ x. x) s) e (YieldsList-from_shown array_steps (λ x. x) array_into_iter_items (λ s t h. h.0) (λ s x t h. h) s)
 
-pub known_more : (t : List Entry) (i : ℕ) → i < length t → are_known (drop i t) ≡ (known (get_or t i blank) && are_known (drop (i + 1) t))
-known_more t i h = at_drop_more are_known t i blank h
-
-pub placed_more : (t : List Entry) (i : ℕ) → i < length t → are_placed t i (drop i t) ≡ (placed t i (parts (node (get_or t i blank))) && are_placed t (i + 1) (drop (i + 1) t))
-placed_more t i h = at_drop_more (are_placed t i) t i blank h ∙ rw add-one
-
--- a part in front
-placed_before : (t : List Entry) (k : ℕ) (a : Option NodePart) (ps : List Part) → placed t k (before a ps) ≡ (placed t k (before a []) && placed t k ps)
-placed_before t k None ps = refl
-placed_before t k (Some a) ps = go _ (placed t k ps)
+pub placed_all : (t : List Entry) (k : ℕ) (ps : List NodePart) → placed t k (map part_of ps) ≡ list_all (λ p. placed t k (part_of p ∷ [])) ps
+placed_all t k [] = refl
+placed_all t k (p ∷ ps) = go _ (placed t k (map part_of ps)) ∙ ap (λ b. placed t k (part_of p ∷ []) && b) (placed_all t k ps)
   where
     go : (x y : Bool) → (x && y) ≡ ((x && true) && y)
     go true y = refl
     go false y = refl
 
-pub placed_three : (t : List Entry) (k : ℕ) (ps : List Part) (p : Parts) → ps ≡ parts_of p → placed t k ps ≡ (placed t k (before p.first []) && (placed t k (before p.second []) && placed t k (before p.third [])))
-placed_three t k ps p e = ap (placed t k) e ∙ placed_before t k p.first _ ∙ ap (λ v. placed t k (before p.first []) && v) (placed_before t k p.second _)
+abbrev pub placed_entry : List Entry → ℕ × Entry → Bool
+placed_entry t p = placed t p.0 (parts (node p.1))
+
+pub placed_each : (t : List Entry) (j : ℕ) (es : List Entry) → are_placed t j es ≡ list_all (placed_entry t) (enumerate_from j es)
+placed_each t j [] = refl
+placed_each t j (e ∷ es) =
+    ap (λ b. placed_entry t (j, e) && b) (placed_each t (suc j) es ∙ ap (λ n. list_all (placed_entry t) (enumerate_from n es)) (sym (add-one j)))

@@ -1,60 +1,52 @@
 -- Counting the uses of each node as a part.
-use Rattle.std.proofs.Common.{◌≡◌, ℕ, ◌+◌, ◌<◌, ◌≤◌, min, cond, eqb, ◌⊎◌, List, [], ◌∷◌, ◌++◌, length, get_or, take, set, replicate, Some, None, Option, sym, ap, ◌∙◌, subst, inl, inr, arith, get_or-set_other, get_or-set_same}
+use Rattle.std.proofs.Common.{◌≡◌, ℕ, ◌+◌, ◌<◌, ◌≤◌, min, cond, eqb, ◌⊎◌, List, [], ◌∷◌, ◌++◌, length, map, get_or, take, set, replicate, sym, ap, ◌∙◌, inl, inr, arith, get_or-set_other, get_or-set_same}
 use Rattle.std.proofs.lemmas.List.{take_more, length-set, get_or-replicate, length-replicate}
 use Rattle.std.proofs.lemmas.Bool.{eq-eqb, ne_eqb, cases_eq}
 use Rattle.tosca.specs.declared.table.Entry.{Entry}
 use Rattle.tosca.specs.Table.{blank, node}
 use Rattle.tosca.specs.Opens.{Part, parts, uses, all_uses}
 use Rattle.draft.specs.declared.nodes.Part.{Part as NodePart}
-use Rattle.draft.specs.declared.nodes.Parts.{Parts}
-use Rattle.draft.specs.Nodes.{part_of, before, parts_of}
+use Rattle.draft.specs.Nodes.{part_of}
 use Rattle.draft.specs.Uses.{Counts}
 
 pub recount : (us : List ℕ) (f g : ℕ → ℕ) → ((k : ℕ) → f k ≡ g k) → Counts us f → Counts us g
 recount us f g same h k lt = h k lt ∙ ap (λ n. min n 255) (same k)
 
 -- one part counted
-pub count_one : (us : List ℕ) (part : Option NodePart) (p : NodePart) (a v : ℕ) → part ≡ Some p → a ≡ (part_of p).at → a < length us → v ≡ min (get_or us a 0 + 1) 255 → (f : ℕ → ℕ) → Counts us f → Counts (set us a v) (λ k. f k + uses k (before part []))
-count_one us part p a v is at lt e f h k kt = subst (λ (o : Option NodePart). get_or (set us a v) k 0 ≡ min (f k + uses k (before o [])) 255) (sym is) (go (cases_eq a k))
+pub count_one : (us : List ℕ) (p : Part) (a v : ℕ) → a ≡ p.at → a < length us → v ≡ min (get_or us a 0 + 1) 255 → (f : ℕ → ℕ) → Counts us f → Counts (set us a v) (λ k. f k + uses k (p ∷ []))
+count_one us p a v at lt e f h k kt = go (cases_eq a k)
   where
     within : k < length us
     within = omega (arith, length-set us a v)
 
-    go : (a ≡ k) ⊎ (a ≡ k → ⊥) → get_or (set us a v) k 0 ≡ min (f k + (cond (eqb (part_of p).at k) 1 0 + 0)) 255
+    go : (a ≡ k) ⊎ (a ≡ k → ⊥) → get_or (set us a v) k 0 ≡ min (f k + (cond (eqb p.at k) 1 0 + 0)) 255
     go (inl same) =
-        let new : get_or (set us a v) k 0 ≡ v = subst (λ (j : ℕ). get_or (set us a v) j 0 ≡ v) same (get_or-set_same us a v 0 lt) in
+        let new : get_or (set us a v) k 0 ≡ v = ap (λ j. get_or (set us a v) j 0) (sym same) ∙ get_or-set_same us a v 0 lt in
         let old : get_or us a 0 ≡ min (f k) 255 = ap (λ j. get_or us j 0) same ∙ h k within in
-        let one : cond {A = ℕ} (eqb (part_of p).at k) 1 0 ≡ 1 = ap (λ b. cond {A = ℕ} b 1 0) (eq-eqb (part_of p).at k (sym at ∙ same)) in
+        let one : cond {A = ℕ} (eqb p.at k) 1 0 ≡ 1 = ap (λ b. cond {A = ℕ} b 1 0) (eq-eqb p.at k (sym at ∙ same)) in
         omega arith
     go (inr other) =
         let old : get_or (set us a v) k 0 ≡ min (f k) 255 = get_or-set_other us a k v 0 (λ q. other (sym q)) ∙ h k within in
-        let none : cond {A = ℕ} (eqb (part_of p).at k) 1 0 ≡ 0 = ap (λ b. cond {A = ℕ} b 1 0) (ne_eqb (part_of p).at k (λ q. other (at ∙ q))) in
+        let none : cond {A = ℕ} (eqb p.at k) 1 0 ≡ 0 = ap (λ b. cond {A = ℕ} b 1 0) (ne_eqb p.at k (λ q. other (at ∙ q))) in
         omega arith
 
 -- a part past the table is not counted
-pub count_past : (us : List ℕ) (part : Option NodePart) (p : NodePart) (a : ℕ) → part ≡ Some p → a ≡ (part_of p).at → length us ≤ a → (f : ℕ → ℕ) → Counts us f → Counts us (λ k. f k + uses k (before part []))
-count_past us part p a is at le f h k kt = subst (λ (o : Option NodePart). get_or us k 0 ≡ min (f k + uses k (before o [])) 255) (sym is)
-    (let none : cond {A = ℕ} (eqb (part_of p).at k) 1 0 ≡ 0 = ap (λ b. cond {A = ℕ} b 1 0) (ne_eqb (part_of p).at k (λ q. omega arith)) in
+pub count_past : (us : List ℕ) (p : Part) → length us ≤ p.at → (f : ℕ → ℕ) → Counts us f → Counts us (λ k. f k + uses k (p ∷ []))
+count_past us p le f h k kt =
+    let none : cond {A = ℕ} (eqb p.at k) 1 0 ≡ 0 = ap (λ b. cond {A = ℕ} b 1 0) (ne_eqb p.at k (λ q. omega arith)) in
     let old = h k kt in
-    omega arith)
+    omega arith
 
-pub count_none : (us : List ℕ) (part : Option NodePart) → part ≡ None → (f : ℕ → ℕ) → Counts us f → Counts us (λ k. f k + uses k (before part []))
-count_none us part is f h k kt = subst (λ (o : Option NodePart). get_or us k 0 ≡ min (f k + uses k (before o [])) 255) (sym is) (h k kt ∙ ap (λ n. min n 255) (omega arith))
+pub uses_further : (k : ℕ) (ps : List NodePart) (p : NodePart) → uses k (map part_of ps) + uses k (part_of p ∷ []) ≡ uses k (map part_of (ps ++ p ∷ []))
+uses_further k [] p = omega arith
+uses_further k (q ∷ ps) p = omega (arith, uses_further k ps p)
 
--- a part in front
-uses_before : (k : ℕ) (a : Option NodePart) (ps : List Part) → uses k (before a ps) ≡ uses k (before a []) + uses k ps
-uses_before k None ps = omega arith
-uses_before k (Some a) ps = omega arith
-
-pub uses_three : (k : ℕ) (ps : List Part) (p : Parts) → ps ≡ parts_of p → uses k ps ≡ (uses k (before p.first []) + uses k (before p.second [])) + uses k (before p.third [])
-uses_three k ps p e = ap (uses k) e ∙ omega (arith, uses_before k p.first (before p.second (before p.third [])), uses_before k p.second (before p.third []))
-
-uses_append : (k : ℕ) (xs ys : List Entry) → all_uses k (xs ++ ys) ≡ all_uses k xs + all_uses k ys
-uses_append k [] ys = omega arith
-uses_append k (e ∷ xs) ys = omega (arith, uses_append k xs ys)
+all_uses_append : (k : ℕ) (xs ys : List Entry) → all_uses k (xs ++ ys) ≡ all_uses k xs + all_uses k ys
+all_uses_append k [] ys = omega arith
+all_uses_append k (e ∷ xs) ys = omega (arith, all_uses_append k xs ys)
 
 pub uses_more : (t : List Entry) (i : ℕ) → i < length t → (k : ℕ) → all_uses k (take i t) + uses k (parts (node (get_or t i blank))) ≡ all_uses k (take (i + 1) t)
-uses_more t i h k = omega (arith, ap (all_uses k) (take_more t i blank h) ∙ uses_append k (take i t) (get_or t i blank ∷ []))
+uses_more t i h k = omega (arith, ap (all_uses k) (take_more t i blank h) ∙ all_uses_append k (take i t) (get_or t i blank ∷ []))
 
 pub none_counted : Counts (replicate 1024 0) (λ k. 0)
 none_counted k lt = get_or-replicate 1024 k 0 0 (omega (arith, length-replicate {A = ℕ} 1024 0))

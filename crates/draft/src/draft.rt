@@ -8,6 +8,7 @@ use tosca::table::Entry;
 pub const MAX_NODES: usize = 1024;
 
 // Made by `open` alone. The first `count` nodes are the routine's; the others are blank.
+// An array with a count beside it, since no call below the program allocates.
 #[derive(Drop)]
 pub struct Draft {
     pub(crate) nodes: [Entry; MAX_NODES],

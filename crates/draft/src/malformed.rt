@@ -2,16 +2,17 @@
 ghost use Rattle.std.specs.Prelude.{◌≡◌};
 ghost use Rattle.draft.specs.Opening.{malformed_number};
 
+// Each with the number that users see.
 #[derive(Clone, Copy, PartialEq, Debug)]
 pub enum Malformed {
     // the count is not 1 to 1,024, or more than the table's entries
-    Count,
+    Count = 11,
     // an entry has an unknown kind, operator or type, or a name, value or place out of its range
-    Entry,
+    Entry = 12,
     // a part does not stand earlier, or is of the wrong sort
-    Part,
+    Part = 13,
     // declarations are not first, the only program is not last, or another entry is not a part just once
-    Arrangement,
+    Arrangement = 14,
 }
 
 impl Malformed {
@@ -19,11 +20,6 @@ impl Malformed {
     pub fn number(self) -> u8
         ensures { result ≡ malformed_number self }
     {
-        match self {
-            Malformed::Count => 11,
-            Malformed::Entry => 12,
-            Malformed::Part => 13,
-            Malformed::Arrangement => 14,
-        }
+        self as u8
     }
 }

@@ -1,13 +1,13 @@
 // The sort of a node, and its parts.
-ghost use Rattle.std.specs.Prelude.{◌≡◌, [], ◌∷◌};
+ghost use Rattle.std.specs.Prelude.{◌≡◌, Some};
 ghost use Rattle.tosca.specs.Table.{node as node_of};
-ghost use Rattle.tosca.specs.Opens.{sort as sort_in, parts as parts_in};
-ghost use Rattle.draft.specs.Nodes.{sort_of, part_of, parts_of};
+ghost use Rattle.tosca.specs.Opens.{sort as sort_in, same_sort, parts as parts_in};
+ghost use Rattle.draft.specs.Nodes.{sort_of, parts_of};
 
 use tosca::table::{Entry, Node};
 
 // What a node may be a part of.
-#[derive(Clone, Copy)]
+#[derive(Clone, Copy, PartialEq, Debug)]
 pub(crate) enum Sort {
     Declaration,
     Expression,
@@ -15,19 +15,11 @@ pub(crate) enum Sort {
     Program,
 }
 
-// The number of a node that must be an expression or a command.
+// The number of a node, and the sort that it must have.
 #[derive(Clone, Copy)]
-pub(crate) enum Part {
-    Expression(u16),
-    Command(u16),
-}
-
-// A node's parts in their order.
-#[derive(Clone, Copy)]
-pub(crate) struct Parts {
-    pub(crate) first: Option<Part>,
-    pub(crate) second: Option<Part>,
-    pub(crate) third: Option<Part>,
+pub(crate) struct Part {
+    pub(crate) at: u16,
+    pub(crate) wants: Sort,
 }
 
 impl Sort {
@@ -50,70 +42,48 @@ impl Sort {
     }
 }
 
-impl Part {
-    // The part's number.
-    pub(crate) fn at(self) -> usize
-        ensures { result ≡ (part_of self).at }
-    {
-        match self {
-            Part::Expression(at) | Part::Command(at) => at as usize,
-        }
-    }
+pub(crate) fn has_sort(entry: &Entry, sort: Sort) -> bool
+    ensures { result ≡ same_sort (sort_in (node_of entry.now)) (sort_of (Some sort)) }
+{
+    Sort::of(entry) == Some(sort)
 }
 
-impl Parts {
-    const NONE: Parts = Parts {
-        first: None,
-        second: None,
-        third: None,
-    };
-
-    fn one(first: Part) -> Parts
-        ensures { parts_of result ≡ part_of first ∷ [] }
+impl Part {
+    fn expression(at: u16) -> Option<Part>
+        ensures { result ≡ Some (record { at = at; wants = Sort.Expression }) }
     {
-        Parts {
-            first: Some(first),
-            ..Parts::NONE
-        }
+        Some(Part {
+            at,
+            wants: Sort::Expression,
+        })
     }
 
-    fn two(first: Part, second: Part) -> Parts
-        ensures { parts_of result ≡ part_of first ∷ part_of second ∷ [] }
+    fn command(at: u16) -> Option<Part>
+        ensures { result ≡ Some (record { at = at; wants = Sort.Command }) }
     {
-        Parts {
-            first: Some(first),
-            second: Some(second),
-            ..Parts::NONE
-        }
+        Some(Part {
+            at,
+            wants: Sort::Command,
+        })
     }
 
-    fn three(first: Part, second: Part, third: Part) -> Parts
-        ensures { parts_of result ≡ part_of first ∷ part_of second ∷ part_of third ∷ [] }
-    {
-        Parts {
-            first: Some(first),
-            second: Some(second),
-            third: Some(third),
-        }
-    }
-
-    // The parts of an entry's node; an entry that is no node has none.
-    pub(crate) fn of(entry: &Entry) -> Parts
+    // The parts of an entry's node, in their order; an entry that is no node has none.
+    pub(crate) fn all_of(entry: &Entry) -> [Option<Part>; 3]
         ensures { parts_in (node_of entry.now) ≡ parts_of result }
     {
         match entry.node() {
-            Some(Node::Uny(_, a) | Node::Assign(_, a) | Node::Output(a)) => Parts::one(
-                Part::Expression(a),
-            ),
-            Some(Node::Bin(a, _, b)) => Parts::two(Part::Expression(a), Part::Expression(b)),
-            Some(Node::Seq(a, b)) => Parts::two(Part::Command(a), Part::Command(b)),
-            Some(Node::Choice(a, b, c)) => {
-                Parts::three(Part::Expression(a), Part::Command(b), Part::Command(c))
+            Some(Node::Uny(_, a) | Node::Assign(_, a) | Node::Output(a)) => {
+                [Part::expression(a), None, None]
             }
-            Some(Node::Loop(a, b)) => Parts::two(Part::Expression(a), Part::Command(b)),
-            Some(Node::Program(a)) => Parts::one(Part::Command(a)),
+            Some(Node::Bin(a, _, b)) => [Part::expression(a), Part::expression(b), None],
+            Some(Node::Seq(a, b)) => [Part::command(a), Part::command(b), None],
+            Some(Node::Choice(a, b, c)) => {
+                [Part::expression(a), Part::command(b), Part::command(c)]
+            }
+            Some(Node::Loop(a, b)) => [Part::expression(a), Part::command(b), None],
+            Some(Node::Program(a)) => [Part::command(a), None, None],
             Some(Node::Decl(..) | Node::Const(_) | Node::Var(_) | Node::Skip | Node::Input(_))
-            | None => { Parts::NONE }
+            | None => [None; 3],
         }
     }
 }

@@ -1,7 +1,6 @@
 // Opening a node table.
-ghost use Rattle.std.specs.Prelude.{◌≡◌, ◌-◌, ◌≤◌, ◌++◌, length, replicate, Ok};
-ghost use Rattle.tosca.specs.Table.{blank};
-ghost use Rattle.tosca.specs.Opens.{opening, opened};
+ghost use Rattle.std.specs.Prelude.{◌≡◌, ◌≤◌, true, false, length, take, Ok, Err, MatchResult, if◌then◌else◌};
+ghost use Rattle.tosca.specs.Opens.{counted, opening, opened};
 ghost use Rattle.draft.specs.Opening.{entries_of, answered, Made};
 
 use crate::arrangement::is_arranged;
@@ -10,28 +9,55 @@ use crate::malformed::Malformed;
 use crate::questions::{all_known, all_placed};
 use tosca::table::{BLANK, Entry};
 
-// The entries, then blank ones.
-fn padded(entries: &[Entry]) -> [Entry; MAX_NODES]
-    requires { length entries.now ≤ 1024 }
-    ensures { result ≡ entries.now ++ replicate (1024 - length entries.now) blank }
+// A question that has to have a yes.
+fn require(yes: bool, refusal: Malformed) -> Result<(), Malformed>
+    ensures { result ≡ (if yes then Ok tt else Err refusal) }
 {
-    let mut nodes = [BLANK; MAX_NODES];
-    nodes[0..entries.len()].copy_from_slice(entries);
-    nodes
+    if yes { Ok(()) } else { Err(refusal) }
+}
+
+// A table, of which the first `count` entries may be a routine.
+#[derive(Clone, Copy)]
+struct Candidate<'a> {
+    table: &'a [Entry],
+    count: usize,
+}
+
+impl<'a> Candidate<'a> {
+    fn entries(self) -> Result<&'a [Entry], Malformed>
+        ensures { MatchResult result (λ s. (counted (length self.entry.table.now) self.entry.count ≡ true) × (s.now ≡ take self.entry.count self.entry.table.now) × (length s.now ≤ 1024)) (λ e. (counted (length self.entry.table.now) self.entry.count ≡ false) × (e ≡ Malformed.Count)) }
+    {
+        if self.count == 0 || self.count > MAX_NODES || self.count > self.table.len() {
+            return Err(Malformed::Count);
+        }
+        Ok(&self.table[..self.count])
+    }
+
+    // Asks the questions in their order, up to the first that fails.
+    fn ask(self) -> Result<(), Malformed>
+        ensures { answered result ≡ opening self.entry.table.now self.entry.count }
+    {
+        let entries = self.entries()?;
+        require(all_known(entries), Malformed::Entry)?;
+        require(all_placed(entries), Malformed::Part)?;
+        require(is_arranged(entries), Malformed::Arrangement)
+    }
+
+    // The draft of entries that passed every question: these, then blank ones.
+    fn draft(self) -> Draft
+        requires { opening self.table.now self.count ≡ opened }
+        ensures { Made self.entry.table.now self.entry.count (Ok result) }
+    {
+        let mut nodes = [BLANK; MAX_NODES];
+        nodes[..self.count].copy_from_slice(&self.table[..self.count]);
+        Draft {
+            nodes,
+            count: self.count,
+        }
+    }
 }
 
 impl Draft {
-    // The draft of a table's first entries, once they passed every question.
-    fn of(table: &[Entry], count: usize) -> Draft
-        requires { opening table.now count ≡ opened }
-        ensures { Made table.now count (Ok result) }
-    {
-        Draft {
-            nodes: padded(&table[0..count]),
-            count,
-        }
-    }
-
     // The routine's nodes.
     pub fn entries(&self) -> &[Entry]
         ensures { result.now ≡ entries_of self.now }
@@ -40,31 +66,12 @@ impl Draft {
     }
 }
 
-// Asks the questions in their order, up to the first that fails.
-fn ask(table: &[Entry], count: usize) -> Result<(), Malformed>
-    ensures { answered result ≡ opening table.now count }
-{
-    if count == 0 || count > MAX_NODES || count > table.len() {
-        return Err(Malformed::Count);
-    }
-    let entries = &table[0..count];
-    if !all_known(entries) {
-        return Err(Malformed::Entry);
-    }
-    if !all_placed(entries) {
-        return Err(Malformed::Part);
-    }
-    if !is_arranged(entries) {
-        return Err(Malformed::Arrangement);
-    }
-    Ok(())
-}
-
 // The draft of a table's first entries, or the first question that fails. The table stays as it is.
 pub fn open(table: &[Entry], count: usize) -> Result<Draft, Malformed>
     ensures is { answered result ≡ opening table.now count }
     ensures made { Made table.now count result }
 {
-    ask(table, count)?;
-    Ok(Draft::of(table, count))
+    let candidate = Candidate { table, count };
+    candidate.ask()?;
+    Ok(candidate.draft())
 }

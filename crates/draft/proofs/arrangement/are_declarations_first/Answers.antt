@@ -1,21 +1,13 @@
-use Rattle.std.proofs.Common.{◌+◌, Bool, drop, sym, ap, ◌∙◌}
-use Rattle.draft.proofs.Arranging.{decls_left, decls_stop, decls_other, decls_decl, decls_all}
+use Rattle.std.proofs.Common.{rules, sym, ◌∙◌, not}
+use borrow.Author.Tests.{tests}
+use Rattle.std.proofs.lemmas.Iterator.{YieldsList-from_slice}
+use Rattle.std.proofs.lemmas.Iterator.Adapters.{YieldsList-from_skip_while}
+use Rattle.std.proofs.lemmas.Iterator.Search.{all_from_yields_List}
+use Rattle.tosca.specs.Opens.{is_decl}
+use Rattle.draft.proofs.Arranging.{is, decls_skipped}
 use Rattle.draft.proofs.arrangement.are_declarations_first.Goals as goal
-use Rattle.draft.proofs.arrangement.are_declarations_first.Goals.{then-not-is_declaration, else-not-is_declaration+else-others}
-
-pub returns-then-others : goal.returns-then-others
-returns-then-others c =
-    decls_stop c.args.entries.now c.loop-entry.entry-index c.loop-entry.others c.loop-entry-test.true c.loop-entry.invariant c.if-not-is_declaration.ensures c.if-others.true
-
-pub loop-entry-preserved : goal.loop-entry-preserved
-loop-entry-preserved c =
-    let t = c.args.entries.now in
-    let i = c.loop-entry.entry-index in
-    let left = λ (b : Bool). decls_left b (drop (i + 1) t) in
-    elim c.if-not-is_declaration.branch [
-      | then-not-is_declaration w ↦ decls_other t i c.loop-entry.others c.loop-entry-test.true c.loop-entry.invariant w.if-not-is_declaration.ensures ∙ ap left (sym w.others-is)
-      | else-not-is_declaration+else-others w ↦ decls_decl t i c.loop-entry.others c.loop-entry-test.true c.loop-entry.invariant w.if-not-is_declaration.ensures w.if-others.false ∙ ap left (sym (w.others-is ∙ w.if-others.false))
-    ]
 
 pub returns : goal.returns
-returns c = decls_all c.args.entries.now c.loop-entry.entry-index c.loop-entry.others c.loop-entry-test.false c.loop-entry.invariant
+returns c =
+    let t = c.args.entries.now in
+    all_from_yields_List (λ e. not (is is_decl e)) _ _ _ c.all.ensures.ran (YieldsList-from_skip_while _ _ _ (is is_decl) _ (λ x b q k. search (rules, tests)) (YieldsList-from_slice t cc) c.skip_while.ensures.closure c.skip_while.ensures.done_skipping) (λ x b q k. search (rules, tests)) ∙ sym (decls_skipped t)

@@ -1,16 +1,10 @@
-use Rattle.std.proofs.Common.{sym, ◌∙◌}
-use Rattle.std.proofs.lemmas.List.{at_drop_all}
-use Rattle.tosca.specs.Opens.{are_known}
-use Rattle.draft.proofs.Asking.{stops, goes_on, known_more}
+use Rattle.std.proofs.Common.{rules, sym, ◌∙◌}
+use borrow.Author.Tests.{tests}
+use Rattle.std.proofs.lemmas.Iterator.{YieldsList-from_slice}
+use Rattle.std.proofs.lemmas.Iterator.Search.{all_from_yields_List}
+use Rattle.tosca.specs.Opens.{known}
+use Rattle.draft.proofs.Asking.{known_all}
 use Rattle.draft.proofs.questions.all_known.Goals as goal
 
-pub returns-then-not-is_known : goal.returns-then-not-is_known
-returns-then-not-is_known c =
-    stops _ (c.loop-entry.invariant ∙ known_more c.args.entries.now c.loop-entry.entry-index c.loop-entry-test.true) c.if-not-is_known.ensures
-
-pub loop-entry-preserved : goal.loop-entry-preserved
-loop-entry-preserved c =
-    goes_on (c.loop-entry.invariant ∙ known_more c.args.entries.now c.loop-entry.entry-index c.loop-entry-test.true) c.if-not-is_known.ensures
-
 pub returns : goal.returns
-returns c = sym (c.loop-entry.invariant ∙ at_drop_all are_known c.args.entries.now c.loop-entry.entry-index c.loop-entry-test.false)
+returns c = all_from_yields_List known _ _ _ c.all.ensures.ran (YieldsList-from_slice c.args.entries.now cc) (λ x b q k. search (rules, tests)) ∙ sym (known_all c.args.entries.now)

@@ -33,10 +33,7 @@ impl Typing {
         ensures { self.new.types ≡ slice_set self.old.types name (first_type (types_of self.old name) typ) }
     {
         let name = name as usize;
-        self.types[name] = match self.types[name] {
-            Some(first) => Some(first),
-            None => Some(typ),
-        };
+        self.types[name] = self.types[name].or(Some(typ));
     }
 
     // The types of a draft's names, each that of the name's first declaration.

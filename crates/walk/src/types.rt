@@ -41,11 +41,8 @@ fn binary_takes(op: Binary) -> SimpleType
     ensures { result ≡ binary_takes_of op }
 {
     match op {
-        Binary::Add | Binary::Subtract | Binary::Multiply | Binary::Divide | Binary::Round => {
-            SimpleType::Integer
-        }
-        Binary::Less | Binary::Greater | Binary::Equal => SimpleType::Integer,
         Binary::And | Binary::Or => SimpleType::Boolean,
+        _ => SimpleType::Integer,
     }
 }
 
@@ -56,8 +53,7 @@ fn binary_gives(op: Binary) -> SimpleType
         Binary::Add | Binary::Subtract | Binary::Multiply | Binary::Divide | Binary::Round => {
             SimpleType::Integer
         }
-        Binary::Less | Binary::Greater | Binary::Equal => SimpleType::Boolean,
-        Binary::And | Binary::Or => SimpleType::Boolean,
+        _ => SimpleType::Boolean,
     }
 }
 

@@ -1,6 +1,7 @@
 -- The reading of types, and what has none at fault. Assumes nothing.
 use Rattle.std.proofs.Common.{◌≡◌, ℕ, Bool, true, false, cond, not, ◌&&◌, List, Some, None, Ok, Err, Option, is_ok, sym, refl, ap, ◌∙◌, subst, inl, inr}
-use borrow.Author.Tests.{both_ways, not-true}
+use Rattle.std.proofs.lemmas.Bool.{and_parts, cond-false, false_from_ne_true}
+use borrow.Author.Tests.{both_ways, not-true, not-false}
 use Rattle.tosca.specs.declared.operators.SimpleType.{SimpleType}
 use Rattle.tosca.specs.declared.operators.SimpleType.TheVariants.{Integer, Boolean}
 use Rattle.tosca.specs.declared.operators.Unary.{Unary}
@@ -11,7 +12,7 @@ use Rattle.statics.specs.declared.verdict.TypeError.TheVariants.{Wrong, AtFault}
 use Rattle.statics.specs.Folding.{fold}
 use Rattle.statics.specs.Typing.{Verdict, decl_of, declared_type, type_in, is_declared, value_type, unary_type, binary_takes, binary_gives, HasType, WellTyped, same_type, variable_verdict, unary_verdict, binary_verdict, verdict, is_at_fault, mismatched, is_no_test, ill_typed, undeclared_var, undeclared_target}
 use Rattle.statics.specs.StaticLaws.{Misapplied, Mistyped, VerdictMeans}
-use Rattle.statics.proofs.Booleans.{false_true, true_false, both_true}
+use Rattle.statics.proofs.Booleans.{false_true, true_false}
 
 same_true : (y z : SimpleType) → same_type y z ≡ true → y ≡ z
 same_true Integer Integer e = refl
@@ -63,7 +64,7 @@ Both o y z = same_type y (binary_takes o) && same_type z (binary_takes o)
 
 takes_both : (o : Binary) (y z : SimpleType) → Both o y z ≡ true → (y ≡ binary_takes o) × (z ≡ binary_takes o)
 takes_both o y z e =
-    let r = both_true (same_type y (binary_takes o)) (same_type z (binary_takes o)) e in
+    let r = and_parts (same_type y (binary_takes o)) (same_type z (binary_takes o)) e in
     (same_true y (binary_takes o) r.0, same_true z (binary_takes o) r.1)
 
 not_both : (o : Binary) (y z : SimpleType) → Both o y z ≡ false → (y ≡ binary_takes o) × (z ≡ binary_takes o) → ⊥
@@ -140,11 +141,7 @@ module _ (ds : List (Decl ℕ)) where
   misapplied_fault (bin n a o b) h =
       ap (λ (v : Verdict). binary_verdict o v (verdict ds b)) (has_typed a h.0 h.2)
       ∙ ap (binary_verdict o (Ok h.0)) (has_typed b h.1 h.3)
-      ∙ by (Both o h.0 h.1) refl
-    where
-      by : (v : Bool) → Both o h.0 h.1 ≡ v → cond v (Ok (binary_gives o)) (Err AtFault) ≡ Err AtFault
-      by true q = absurd (h.4 (takes_both o h.0 h.1 q))
-      by false q = refl
+      ∙ cond-false (Both o h.0 h.1) _ _ (false_from_ne_true (Both o h.0 h.1) (λ q. h.4 (takes_both o h.0 h.1 q)))
 
   -- a type for an expression none of whose nodes is at fault, where its names are declared
   pub has_some : (e : Expr ℕ) → ((s : Expr ℕ) → InExpr s e → is_at_fault (verdict ds s) ≡ false) → ((s : Expr ℕ) → InExpr s e → undeclared_var ds s ≡ false) → (y : SimpleType) × HasType ds e y
@@ -234,11 +231,7 @@ module _ (ds : List (Decl ℕ)) where
   -- the two sides of an assignment that is not at fault
   is_assigned : (o : Option (Decl ℕ)) (e : Expr ℕ) (y : SimpleType) → HasType ds e y → not (is_declared o) ≡ false → mismatched (declared_type o) (verdict ds e) ≡ false → declared_type o ≡ Some y
   is_assigned (Some d) e y h k m =
-      ap Some (by (same_type d.type y) refl (subst (λ (v : Verdict). mismatched (Some d.type) v ≡ false) (has_typed e y h) m))
-    where
-      by : (b : Bool) → same_type d.type y ≡ b → not b ≡ false → d.type ≡ y
-      by true q r = same_true d.type y q
-      by false q r = true_false r
+      ap Some (same_true d.type y (not-false (same_type d.type y) (subst (λ (v : Verdict). mismatched (Some d.type) v ≡ false) (has_typed e y h) m)))
   is_assigned None e y h k m = true_false k
 
   -- the command has no node at fault, where its names are declared

@@ -26,11 +26,6 @@ min_digit (suc zero) (suc zero) h k = refl
 min_digit (suc zero) (suc (suc v)) h k = absurd (omega arith)
 min_digit (suc (suc u)) v h k = absurd (omega arith)
 
-less_digit : (u : ℕ) → u < 2 → eqb (1 - u) 1 ≡ not (eqb u 1)
-less_digit zero h = refl
-less_digit (suc zero) h = refl
-less_digit (suc (suc u)) h = absurd (omega arith)
-
 -- the empty set
 pub holds_none : (x : ℕ) → holds 0 x ≡ false
 holds_none x = ap (λ (q : ℕ). eqb (q % 2) 1) (zero-div (2 ^ x))
@@ -70,65 +65,3 @@ holds_single y x =
     (λ (e : y ≡ x). ap (λ (k : ℕ). holds (2 ^ y) k) (sym e) ∙ ap (λ (q : ℕ). eqb (q % 2) 1) (div_self (pow_pos y)) ∙ sym (eq-eqb y x e))
     (λ (ne : y ≡ x → ⊥). ⊎_elim (λ (h : y < x). holds_past (2 ^ y) x (pow-lt h)) (λ (h : x ≤ y). single_lower x y (omega arith)) (cases_lt y x) ∙ sym (ne_eqb y x ne))
     (cases_eq y x)
-
--- what is not in a set, below the top bit
-digits_left : (j x b : ℕ) → b < 2 ^ (j + x) → ((2 ^ (j + x) - 1) - b) / 2 ^ x ≡ (2 ^ j - 1) - b / 2 ^ x
-digits_left j x b h =
-    let q = b / 2 ^ x in
-    let r = b % 2 ^ x in
-    let whole : q * 2 ^ x + r ≡ b = div-add-mod' b (2 ^ x) in
-    let small : r < 2 ^ x = mod-lt b (pow_pos x) in
-    let quotient : q < 2 ^ j = shr_lt j x h in
-    let d : ℕ = (2 ^ j - 1) - q in
-    let top : d + q ≡ 2 ^ j - 1 = omega arith in
-    let rest : ℕ = (2 ^ x - 1) - r in
-    let product : (2 ^ j - 1) * 2 ^ x ≡ d * 2 ^ x + q * 2 ^ x = ap (λ (k : ℕ). k * 2 ^ x) (sym top) ∙ add-mul d q (2 ^ x) in
-    let parts : (2 ^ (j + x) - 1) - b ≡ d * 2 ^ x + rest = omega (arith, ones_split j x) in
-    ap (λ (k : ℕ). k / 2 ^ x) parts ∙ high d x (omega arith)
-
-pub holds_complement : (w b x : ℕ) → b < 2 ^ w → x < w → holds ((2 ^ w - 1) - b) x ≡ not (holds b x)
-holds_complement w b x h lt =
-    let i : ℕ = w - (x + 1) in
-    let e : suc i + x ≡ w = omega arith in
-    let h' : b < 2 ^ (suc i + x) = subst (λ (k : ℕ). b < 2 ^ k) (sym e) h in
-    let q : ℕ = b / 2 ^ x in
-    let less : q < 2 ^ suc i = shr_lt (suc i) x h' in
-    let digit : ((2 ^ suc i - 1) - q) % 2 ≡ 1 - q % 2 = omega (arith, pow-suc 2 i) in
-    ap (λ (k : ℕ). holds ((2 ^ k - 1) - b) x) (sym e)
-    ∙ ap (λ (k : ℕ). eqb (k % 2) 1) (digits_left (suc i) x b h')
-    ∙ ap (λ (k : ℕ). eqb k 1) digit ∙ less_digit (q % 2) (omega arith)
-
--- a set without members is 0
-pub none_held : (w n : ℕ) → n < 2 ^ w → ((x : ℕ) → holds n x ≡ false) → n ≡ 0
-none_held zero n h none = omega arith
-none_held (suc w) n h none =
-    let half : n / 2 < 2 ^ w = omega (arith, pow-suc 2 w) in
-    let last : n % 2 ≡ 1 → ⊥ = eqb-false (n % 2) 1 (ap (λ (k : ℕ). eqb (k % 2) 1) (sym (div-one n)) ∙ none 0) in
-    let upper : n / 2 ≡ 0 = none_held w (n / 2) half (λ x. ap (λ (k : ℕ). eqb (k % 2) 1) (shr-shr n 1 x ∙ ap (λ (k : ℕ). n / 2 ^ k) (one-add x)) ∙ none (suc x)) in
-    ⊎_elim (λ (e : n % 2 ≡ 1). absurd (last e)) (λ (ne : n % 2 ≡ 1 → ⊥). omega arith) (cases_eq (n % 2) 1)
-
--- `a & !b` is 0 exactly if all of a is in b
-pub within_from_zero : (w a b : ℕ) → a < 2 ^ w → b < 2 ^ w → bit_and a ((2 ^ w - 1) - b) ≡ 0 → (x : ℕ) → holds a x ≡ true → holds b x ≡ true
-within_from_zero w a b la lb z x h =
-    ⊎_elim
-    (λ (lt : x < w). by (holds b x) refl lt)
-    (λ (le : w ≤ x). absurd (both_ways (holds a x) (holds_past a x (omega (arith, pow_mono le))) h))
-    (cases_lt x w)
-  where
-    by : (v : Bool) → holds b x ≡ v → x < w → v ≡ true
-    by true e lt = refl
-    by false e lt =
-        absurd (both_ways (holds (bit_and a ((2 ^ w - 1) - b)) x)
-        (ap (λ (k : ℕ). holds k x) z ∙ holds_none x)
-        (holds_and a ((2 ^ w - 1) - b) x ∙ and_from (holds a x) (holds ((2 ^ w - 1) - b) x) h (holds_complement w b x lb lt ∙ ap not e)))
-
-pub zero_from_within : (w a b : ℕ) → a < 2 ^ w → b < 2 ^ w → ((x : ℕ) → holds a x ≡ true → holds b x ≡ true) → bit_and a ((2 ^ w - 1) - b) ≡ 0
-zero_from_within w a b la lb within = none_held w (bit_and a ((2 ^ w - 1) - b)) (and_lt w a ((2 ^ w - 1) - b) la (ones_sub-lt w b)) (λ x. holds_and a ((2 ^ w - 1) - b) x ∙ by x (holds a x) refl)
-  where
-    by : (x : ℕ) (v : Bool) → holds a x ≡ v → (v && holds ((2 ^ w - 1) - b) x) ≡ false
-    by x false e = refl
-    by x true e =
-        ⊎_elim
-        (λ (lt : x < w). holds_complement w b x lb lt ∙ ap not (within x e))
-        (λ (le : w ≤ x). absurd (both_ways (holds a x) (holds_past a x (omega (arith, pow_mono le))) e))
-        (cases_lt x w)

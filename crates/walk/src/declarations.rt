@@ -1,9 +1,10 @@
 // The types that a draft declares.
-ghost use Rattle.std.specs.Prelude.{◌≡◌, ℕ, ◌<◌, replicate, None, slice_set};
+ghost use Rattle.std.specs.Prelude.{◌≡◌, ℕ, ◌<◌, replicate, Some, None, slice_set};
+ghost use Rattle.std.specs.Option.{option_or};
 ghost use Rattle.draft.specs.Opening.{tree_of};
 ghost use Rattle.statics.specs.Typing.{type_in};
 ghost use Rattle.walk.specs.Readings.{types_of};
-ghost use Rattle.walk.specs.Gathering.{declaration as declaration_of, first_type};
+ghost use Rattle.walk.specs.Gathering.{declaration as declaration_of};
 
 use crate::types::Typing;
 use draft::draft::Draft;
@@ -30,7 +31,7 @@ impl Typing {
     // A name keeps the type that it has.
     fn declare(&mut self, name: u16, typ: SimpleType)
         requires { name < 64 }
-        ensures { self.new.types ≡ slice_set self.old.types name (first_type (types_of self.old name) typ) }
+        ensures { self.new.types ≡ slice_set self.old.types name (option_or (types_of self.old name) (Some typ)) }
     {
         let name = name as usize;
         self.types[name] = self.types[name].or(Some(typ));

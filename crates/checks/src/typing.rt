@@ -39,7 +39,7 @@ fn no_test(verdict: Verdict) -> bool
     matches!(verdict, Ok(SimpleType::Integer))
 }
 
-// Nodes that are wrongly typed, by the types of names and the verdicts on expressions.
+// Nodes that are wrongly typed, by the types of names and, in fixed memory, the verdicts on expressions.
 #[derive(Drop)]
 struct IllTyped {
     typing: Typing,

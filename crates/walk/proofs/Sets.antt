@@ -1,10 +1,9 @@
 -- Sets of names as numbers, bit x standing for the name x. Assumes nothing.
-use Rattle.std.proofs.Common.{◌≡◌, ℕ, zero, suc, ◌+◌, ◌-◌, ◌*◌, ◌/◌, ◌%◌, ◌^◌, ◌<◌, ◌≤◌, min, max, Bool, true, false, not, ◌&&◌, ◌||◌, eqb, sym, refl, ap, ◌∙◌, subst, ⊎_elim, mod-lt, add-mul, pow-suc, div-add-mod', div-one, one-add, arith, pow_pos, pow_mono, pow-add, shr-shr, shr_lt, eq-eqb, ne_eqb}
+use Rattle.std.proofs.Common.{◌≡◌, ℕ, zero, suc, ◌+◌, ◌-◌, ◌*◌, ◌/◌, ◌%◌, ◌^◌, ◌<◌, ◌≤◌, min, max, false, ◌&&◌, ◌||◌, eqb, sym, refl, ap, ◌∙◌, ⊎_elim, pow-suc, arith, pow_pos, pow-add, eq-eqb, ne_eqb}
 use native.Mathlib.Nat.{zero-div, div-eq_of_lt, div_self, div-eq_of_eq-mul_left}
-use lib.Bits.{bit_and, bit_or, and_lt, and_shr, and_step, or_shr, or_step}
-use lib.Pow.{pow-lt, high, ones_split, ones_sub-lt}
-use borrow.Author.Tests.{eqb-false}
-use Rattle.std.proofs.lemmas.Bool.{cases_lt, cases_eq, and_from, both_ways}
+use lib.Bits.{bit_and, bit_or, and_shr, and_step, or_shr, or_step}
+use lib.Pow.{pow-lt}
+use Rattle.std.proofs.lemmas.Bool.{cases_lt, cases_eq}
 use Rattle.walk.specs.Readings.{holds}
 
 -- the digits 0 and 1 as tests

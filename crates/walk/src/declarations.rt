@@ -1,5 +1,5 @@
 // The types that a draft declares.
-ghost use Rattle.std.specs.Prelude.{◌≡◌, ℕ, ◌<◌, replicate, Some, None, slice_set};
+ghost use Rattle.std.specs.Prelude.{◌≡◌, ℕ, ◌<◌, Some, slice_set};
 ghost use Rattle.std.specs.Option.{option_or};
 ghost use Rattle.draft.specs.Opening.{tree_of};
 ghost use Rattle.statics.specs.Typing.{type_in};
@@ -22,12 +22,6 @@ fn declaration(node: Option<Node>) -> Option<(u16, SimpleType)>
 }
 
 impl Typing {
-    fn undeclared() -> Typing
-        ensures { result.types ≡ replicate 64 None }
-    {
-        Typing { types: [None; 64] }
-    }
-
     // A name keeps the type that it has.
     fn declare(&mut self, name: u16, typ: SimpleType)
         requires { name < 64 }
@@ -41,7 +35,7 @@ impl Typing {
     pub fn of(draft: &Draft) -> Typing
         ensures { (x : ℕ) → types_of result x ≡ type_in (tree_of draft.now).decls x }
     {
-        let mut typing = Typing::undeclared();
+        let mut typing = Typing { types: [None; 64] };
         for entry in draft.entries() {
             if let Some((name, typ)) = declaration(entry.node()) {
                 typing.declare(name, typ);

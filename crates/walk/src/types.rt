@@ -11,7 +11,7 @@ use draft::draft::Draft;
 use statics::verdict::{TypeError, Verdict};
 use tosca::operators::{Binary, SimpleType, Unary, Value};
 
-// The types of the names; a name that is not declared has none.
+// The types of the names by their numbers, in fixed memory; a name that is not declared has none.
 #[derive(Drop)]
 pub struct Typing {
     pub(crate) types: [Option<SimpleType>; 64],

@@ -29,6 +29,7 @@ pub fn walk<R: Reading>(reading: &R, draft: &Draft, answers: &mut [R::Answer])
 {
     let entries = draft.entries();
     let room = answers.len().min(entries.len());
+    // the answers are indexed, since each is worked out from earlier ones
     for (n, entry) in entries[..room].iter().enumerate() {
         if let Some(found) = answer(reading, entry.node(), &answers[..n]) {
             answers[n] = found;

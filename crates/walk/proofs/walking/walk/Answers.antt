@@ -1,4 +1,3 @@
-use Rattle.draft.specs.Opening.{entries_of}
 use Rattle.walk.proofs.Filling.{turn_ready, turn_some, turn_none, turn_last}
 use Rattle.walk.proofs.walking.walk.Goals as goal
 use Rattle.walk.proofs.walking.walk.Goals.{in-Some, in_default}

@@ -1,5 +1,5 @@
 -- What the passes ask is what the rules choose. Assumes nothing.
-use Rattle.std.proofs.Common.{◌≡◌, ℕ, ◌<◌, ◌≤◌, Bool, true, not, ltb, List, length, get_or, Some, None, Option, sym, refl, ap, ◌∙◌, ap₂, arith}
+use Rattle.std.proofs.Common.{◌≡◌, ℕ, ◌<◌, ◌≤◌, Bool, true, not, ltb, List, length, get_or, Some, None, Ok, Err, Option, sym, refl, ap, ◌∙◌, ap₂, arith}
 use Rattle.tosca.specs.declared.operators.SimpleType.{SimpleType}
 use Rattle.tosca.specs.declared.table.Entry.{Entry}
 use Rattle.tosca.specs.declared.table.Node.{Node}
@@ -12,11 +12,10 @@ use Rattle.tosca.specs.Decode.{expr_of, expr_at, cmd_of, cmd_at, program_of}
 use Rattle.tosca.proofs.Decoding.{expr_step, cmd_step}
 use Rattle.draft.specs.Forming.{is_formed}
 use Rattle.draft.proofs.Facts.{assign_fact, choice_fact, loop_fact, cmd_at_assign, cmd_at_choice, cmd_at_loop}
-use Rattle.statics.specs.declared.rules.Rule.TheVariants.{Declared, Typed as TypedRule, Temporaries}
-use Rattle.statics.specs.declared.verdict.Verdict.{Verdict}
-use Rattle.statics.specs.declared.verdict.Verdict.TheVariants.{Typed, Wrong, AtFault}
+use Rattle.statics.specs.declared.rules.Rule.TheVariants.{Declared, Typed, Temporaries}
+use Rattle.statics.specs.declared.verdict.TypeError.TheVariants.{Wrong}
 use Rattle.statics.specs.Choosing.{lowest}
-use Rattle.statics.specs.Typing.{decl_of, declared_type, type_in, is_declared, variable_verdict, typing, verdict, is_at_fault, mismatched, is_no_test, ill_typed, undeclared_var, undeclared_target}
+use Rattle.statics.specs.Typing.{Verdict, decl_of, declared_type, type_in, is_declared, variable_verdict, typing, verdict, is_at_fault, mismatched, is_no_test, ill_typed, undeclared_var, undeclared_target}
 use Rattle.statics.specs.Temporaries.{need}
 use Rattle.statics.specs.Checking.{is_too_large, no_cmd, faults}
 use Rattle.statics.specs.Scanning.{first_of, chooses_as, chooses}
@@ -64,9 +63,8 @@ declared_asked t formed ty same {r} h =
 
 -- types
 mismatch_same : (o : Option SimpleType) (v : Verdict) → mismatched o v ≡ differ (variable_verdict o) v
-mismatch_same (Some y) (Typed z) = refl
-mismatch_same (Some y) Wrong = refl
-mismatch_same (Some y) AtFault = refl
+mismatch_same (Some y) (Ok z) = refl
+mismatch_same (Some y) (Err w) = refl
 mismatch_same None v = refl
 
 module _ (t : List Entry) (formed : is_formed t ≡ true) (ds : List (tree.Decl ℕ)) (ty : ℕ → Option SimpleType) (same : (x : ℕ) → ty x ≡ type_in ds x)
@@ -89,12 +87,12 @@ module _ (t : List Entry) (formed : is_formed t ≡ true) (ds : List (tree.Decl 
   types_at (Some (Program a)) e = refl
   types_at None e = refl
 
-pub typed_asked : (t : List Entry) (formed : is_formed t ≡ true) (ty : ℕ → Option SimpleType) → ((x : ℕ) → ty x ≡ type_in (program_of t).decls x) → (on xs : List Verdict) → on ≡ filled (typing ty) t 0 xs → length t ≤ length xs → {r : Option ℕ} → r ≡ first_of (λ n. of_node (is_ill_typed (λ x. variable_verdict (ty x)) (λ k. get_or on k Wrong) n) (node (get_or t n blank))) 0 (length t) → r ≡ lowest (faults TypedRule (program_of t))
+pub typed_asked : (t : List Entry) (formed : is_formed t ≡ true) (ty : ℕ → Option SimpleType) → ((x : ℕ) → ty x ≡ type_in (program_of t).decls x) → (on xs : List Verdict) → on ≡ filled (typing ty) t 0 xs → length t ≤ length xs → {r : Option ℕ} → r ≡ first_of (λ n. of_node (is_ill_typed (λ x. variable_verdict (ty x)) (λ k. get_or on k (Err Wrong)) n) (node (get_or t n blank))) 0 (length t) → r ≡ lowest (faults Typed (program_of t))
 typed_asked t formed ty same on xs is room {r} h =
     let ds = (program_of t).decls in
-    let told : (k : ℕ) → IsExpr t k → get_or on k Wrong ≡ verdict ds (expr_at t k) =
-    λ k ex. ap (λ (ys : List Verdict). get_or ys k Wrong) (is ∙ verdicts_filled ty ds same t 0 xs) ∙ filled_expr (verdict ds) t xs k Wrong (omega (arith, expr_within t k ex, room)) ex in
-    h ∙ first_chosen t (λ e. is_at_fault (verdict ds e)) (ill_typed ds) (λ n. of_node (is_ill_typed (λ x. variable_verdict (ty x)) (λ k. get_or on k Wrong) n) (node (get_or t n blank))) (λ k lt. types_at t formed ds ty same (λ j. get_or on j Wrong) told k lt (node (get_or t k blank)) refl)
+    let told : (k : ℕ) → IsExpr t k → get_or on k (Err Wrong) ≡ verdict ds (expr_at t k) =
+    λ k ex. ap (λ (ys : List Verdict). get_or ys k (Err Wrong)) (is ∙ verdicts_filled ty ds same t 0 xs) ∙ filled_expr (verdict ds) t xs k (Err Wrong) (omega (arith, expr_within t k ex, room)) ex in
+    h ∙ first_chosen t (λ e. is_at_fault (verdict ds e)) (ill_typed ds) (λ n. of_node (is_ill_typed (λ x. variable_verdict (ty x)) (λ k. get_or on k (Err Wrong)) n) (node (get_or t n blank))) (λ k lt. types_at t formed ds ty same (λ j. get_or on j (Err Wrong)) told k lt (node (get_or t k blank)) refl)
     ∙ sym (scanned (λ e. is_at_fault (verdict ds e)) (ill_typed ds) t formed)
 
 -- temporaries

@@ -1,24 +1,21 @@
 -- What a pass asks of one entry, from answers that were worked out before it.
-use Rattle.std.specs.Prelude.{ℕ, Bool, true, false, not, Some, None, Option, nat_lt}
+use Rattle.std.specs.Prelude.{ℕ, Bool, true, false, not, Some, None, Ok, Err, Option, nat_lt}
 use Rattle.tosca.specs.declared.table.Node.{Node}
 use Rattle.tosca.specs.declared.table.Node.TheVariants.{Decl, Const, Var, Uny, Bin, Skip, Assign, Seq, Choice, Loop, Input, Output, Program}
-use Rattle.statics.specs.declared.verdict.Verdict.{Verdict}
-use Rattle.statics.specs.declared.verdict.Verdict.TheVariants.{Typed, Wrong, AtFault}
-use Rattle.statics.specs.Typing.{same_type, is_at_fault, is_no_test}
+use Rattle.statics.specs.declared.verdict.TypeError.TheVariants.{Wrong, AtFault}
+use Rattle.statics.specs.Typing.{Verdict, same_type, is_at_fault, is_no_test}
 
 -- the verdict on a variable without a declaration
 abbrev pub is_wrong : Verdict → Bool
-is_wrong (Typed y) = false
-is_wrong Wrong = true
-is_wrong AtFault = false
+is_wrong (Ok y) = false
+is_wrong (Err Wrong) = true
+is_wrong (Err AtFault) = false
 
 -- both are right, and of two types
 abbrev pub differ : Verdict → Verdict → Bool
-differ (Typed y) (Typed z) = not (same_type y z)
-differ (Typed y) Wrong = false
-differ (Typed y) AtFault = false
-differ Wrong v = false
-differ AtFault v = false
+differ (Ok y) (Ok z) = not (same_type y z)
+differ (Ok y) (Err w) = false
+differ (Err w) v = false
 
 -- the node has a name without a declaration
 abbrev pub names_undeclared : (ℕ → Verdict) → Node → Bool

@@ -13,7 +13,7 @@ use crate::names::Names;
 use crate::nodes::{count, node_at};
 use crate::passes::{Test, first_fault};
 use draft::draft::Draft;
-use statics::verdict::Verdict;
+use statics::verdict::TypeError;
 use tosca::table::Node;
 use walk::reading::Reading;
 use walk::types::Typing;
@@ -46,10 +46,7 @@ impl Undeclared {
         requires { name < 64 }
         ensures { result ≡ is_wrong (variable_verdict (types_of self.now.typing name)) }
     {
-        match self.typing.variable(name) {
-            Verdict::Wrong => true,
-            _ => false,
-        }
+        self.typing.variable(name) == Err(TypeError::Wrong)
     }
 }
 

@@ -1,9 +1,9 @@
 // Whether types are right.
-ghost use Rattle.std.specs.Prelude.{◌≡◌, ◌<◌, get_or, slice_index_or};
+ghost use Rattle.std.specs.Prelude.{◌≡◌, ◌<◌, get_or, slice_index_or, Err};
 ghost use Rattle.tosca.specs.Table.{blank, node};
 ghost use Rattle.draft.specs.Opening.{tree_of};
 ghost use Rattle.statics.specs.declared.rules.Rule.TheVariants.{Typed};
-ghost use Rattle.statics.specs.declared.verdict.Verdict.TheVariants.{Wrong};
+ghost use Rattle.statics.specs.declared.verdict.TypeError.TheVariants.{Wrong};
 ghost use Rattle.statics.specs.Choosing.{lowest};
 ghost use Rattle.statics.specs.Typing.{variable_verdict, is_at_fault as is_at_fault_of, is_no_test};
 ghost use Rattle.statics.specs.Checking.{faults};
@@ -13,7 +13,7 @@ ghost use Rattle.checks.specs.Asking.{differ as differ_of, is_ill_typed, of_node
 use crate::nodes::node_at;
 use crate::passes::{Test, first_fault};
 use draft::draft::{Draft, MAX_NODES};
-use statics::verdict::Verdict;
+use statics::verdict::{TypeError, Verdict};
 use tosca::operators::SimpleType;
 use tosca::table::Node;
 use walk::reading::Reading;
@@ -22,33 +22,24 @@ use walk::types::{Typing, verdicts};
 fn at_fault(verdict: Verdict) -> bool
     ensures { result ≡ is_at_fault_of verdict }
 {
-    match verdict {
-        Verdict::AtFault => true,
-        _ => false,
-    }
+    matches!(verdict, Err(TypeError::AtFault))
 }
 
 // Both sides of an assignment are right, and of two types.
 fn differ(left: Verdict, right: Verdict) -> bool
     ensures { result ≡ differ_of left right }
 {
-    match (left, right) {
-        (Verdict::Typed(y), Verdict::Typed(z)) => y != z,
-        _ => false,
-    }
+    matches!((left, right), (Ok(y), Ok(z)) if y != z)
 }
 
 // A test that is right, and no boolean.
 fn no_test(verdict: Verdict) -> bool
     ensures { result ≡ is_no_test verdict }
 {
-    match verdict {
-        Verdict::Typed(SimpleType::Integer) => true,
-        _ => false,
-    }
+    matches!(verdict, Ok(SimpleType::Integer))
 }
 
-// Nodes that are wrongly typed, by the types of names and the verdicts on expressions.
+// Nodes that are wrongly typed, by the types of names and, in fixed memory, the verdicts on expressions.
 #[derive(Drop)]
 struct IllTyped {
     typing: Typing,
@@ -59,14 +50,14 @@ impl IllTyped {
     // The verdict on an expression.
     fn on(&self, n: u16) -> Verdict
         requires { n < 1024 }
-        ensures { result ≡ slice_index_or self.now.verdicts n Wrong }
+        ensures { result ≡ slice_index_or self.now.verdicts n (Err Wrong) }
     {
         self.verdicts[n as usize]
     }
 }
 
 impl Test for IllTyped {
-    ghost faulty = { λ s t n. of_node (is_ill_typed (λ x. variable_verdict (types_of s.typing x)) (λ k. get_or s.verdicts k Wrong) n) (node (slice_index_or t n blank)) };
+    ghost faulty = { λ s t n. of_node (is_ill_typed (λ x. variable_verdict (types_of s.typing x)) (λ k. get_or s.verdicts k (Err Wrong)) n) (node (slice_index_or t n blank)) };
 
     fn is_at_fault(&self, draft: &Draft, n: u16) -> bool {
         match node_at(draft, n) {
@@ -85,7 +76,7 @@ pub(crate) fn ill_typed(draft: &Draft) -> Option<u16>
     ensures { result ≡ lowest (faults Typed (tree_of draft.now)) }
 {
     let typing = Typing::of(draft);
-    let mut on = [Verdict::Wrong; MAX_NODES];
+    let mut on = [Err(TypeError::Wrong); MAX_NODES];
     verdicts(&typing, draft, &mut on);
     let test = IllTyped {
         typing,

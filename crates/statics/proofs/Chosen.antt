@@ -1,10 +1,10 @@
 -- Which nodes two tests choose. Assumes nothing.
 use Rattle.std.proofs.Common.{◌≡◌, ℕ, Bool, true, false, ◌⊎◌, [], ◌++◌, sym, refl, ap, ◌∙◌, subst, inl, inr}
+use Rattle.std.proofs.lemmas.Bool.{false_from_ne_true}
 use borrow.Author.Tests.{both_ways}
 use Rattle.tosca.specs.Trees.{Expr, const, var, uny, bin, Cmd, skip, assign, seq, choice, loop, input, output}
 use Rattle.draft.specs.Subtrees.{expr_label, cmd_label, InExpr, ExprIn, CmdIn}
 use Rattle.statics.specs.Choosing.{Among, picked, chosen_in, chosen}
-use Rattle.statics.proofs.Booleans.{not_chosen}
 use Rattle.statics.proofs.Lists.{among_left, among_right, among_append, none_among, among_none, picked_to, picked_from}
 
 module _ (f : Expr ℕ → Bool) where
@@ -177,8 +177,8 @@ module _ (f : Expr ℕ → Bool) (g : Cmd ℕ → Bool) where
 
   pub none_to : (c : Cmd ℕ) → chosen f g c ≡ [] → NoneChosen c
   none_to c e = (
-    λ s i. not_chosen (f s) (λ h. among_none (chosen f g c) (expr_label s) e (chosen_expr c s i h)),
-    λ s i. not_chosen (g s) (λ h. among_none (chosen f g c) (cmd_label s) e (chosen_cmd c s i h)),
+    λ s i. false_from_ne_true (f s) (λ h. among_none (chosen f g c) (expr_label s) e (chosen_expr c s i h)),
+    λ s i. false_from_ne_true (g s) (λ h. among_none (chosen f g c) (cmd_label s) e (chosen_cmd c s i h)),
   )
 
   pub none_from : (c : Cmd ℕ) → NoneChosen c → chosen f g c ≡ []

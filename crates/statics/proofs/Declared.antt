@@ -1,5 +1,6 @@
 -- Declarations: each name once, and each name used. Assumes nothing.
-use Rattle.std.proofs.Common.{◌≡◌, ℕ, Bool, true, false, cond, not, ◌||◌, eqb, ◌⊎◌, List, [], ◌∷◌, ◌++◌, Some, sym, refl, ap, ◌∙◌, subst, inl, inr, arith, eq-eqb, ne_eqb, eqb-true}
+use Rattle.std.proofs.Common.{◌≡◌, ℕ, Bool, true, false, cond, not, eqb, ◌⊎◌, List, [], ◌∷◌, ◌++◌, Some, sym, refl, ap, ◌∙◌, subst, inl, inr, arith, eq-eqb, ne_eqb, eqb-true}
+use Rattle.std.proofs.lemmas.Bool.{false_from_ne_true, or_parts, or_cases, or_from, or_left, or_right}
 use borrow.Author.Tests.{eqb-false, not-true, not-false, both_ways}
 use Rattle.tosca.specs.Trees.{Expr, const, var, uny, bin, Cmd, skip, assign, seq, choice, loop, input, output, Decl}
 use Rattle.draft.specs.Subtrees.{expr_label, cmd_label, ExprIn, CmdIn}
@@ -7,7 +8,7 @@ use Rattle.statics.specs.Choosing.{Among}
 use Rattle.statics.specs.Typing.{decl_of, is_declared, undeclared_var, undeclared_target}
 use Rattle.statics.specs.Checking.{is_name, again}
 use Rattle.statics.specs.StaticLaws.{Distinct, Declares, NamesAt, Names, Repeated}
-use Rattle.statics.proofs.Booleans.{false_true, not_chosen, either_false, either_true, neither}
+use Rattle.statics.proofs.Booleans.{false_true}
 use Rattle.statics.proofs.Chosen.{Chosen, NoneChosen}
 
 -- none of the declarations has one of the names
@@ -25,9 +26,9 @@ again_none xs (d ∷ ds) h = by (is_name d.name xs) refl h (λ k. again_none (d.
         let r = ih h in (
           λ e i. elim i [
             | inl p ↦ ap (λ (c : Decl ℕ). is_name c.name xs) (sym p) ∙ q
-            | inr j ↦ (either_false (eqb e.name d.name) (is_name e.name xs) (r.0 e j)).1
+            | inr j ↦ (or_parts (eqb e.name d.name) (is_name e.name xs) (r.0 e j)).1
           ],
-          (λ e j p. eqb-false e.name d.name (either_false (eqb e.name d.name) (is_name e.name xs) (r.0 e j)).0 p, r.1),
+          (λ e j p. eqb-false e.name d.name (or_parts (eqb e.name d.name) (is_name e.name xs) (r.0 e j)).0 p, r.1),
         )
 
 pub none_again : (xs : List ℕ) (ds : List (Decl ℕ)) → Apart xs ds → Distinct ds → again xs ds ≡ []
@@ -35,7 +36,7 @@ none_again xs [] h k = refl
 none_again xs (d ∷ ds) h k =
     ap (λ (b : Bool). cond b (d.label ∷ again (d.name ∷ xs) ds) (again (d.name ∷ xs) ds)) (h d (inl refl))
     ∙ none_again (d.name ∷ xs) ds
-    (λ e i. neither (eqb e.name d.name) (is_name e.name xs) (ne_eqb e.name d.name (k.0 e i)) (h e (inr i)))
+    (λ e i. or_from (eqb e.name d.name) (is_name e.name xs) (ne_eqb e.name d.name (k.0 e i)) (h e (inr i)))
     k.1
 
 pub declared_has : (ds : List (Decl ℕ)) (x : ℕ) → is_declared (decl_of ds x) ≡ true → Declares ds x
@@ -92,7 +93,7 @@ module _ (ds : List (Decl ℕ)) (c : Cmd ℕ) where
   not_declared x h d = both_ways (is_declared (decl_of ds x)) (not-true (is_declared (decl_of ds x)) h) (has_declared ds x d)
 
   undeclared : (x : ℕ) → (Declares ds x → ⊥) → not (is_declared (decl_of ds x)) ≡ true
-  undeclared x h = ap not (not_chosen (is_declared (decl_of ds x)) (λ e. h (declared_has ds x e)))
+  undeclared x h = ap not (false_from_ne_true (is_declared (decl_of ds x)) (λ e. h (declared_has ds x e)))
 
   var_undeclared : (s : Expr ℕ) (k : ℕ) → ExprIn s c → undeclared_var ds s ≡ true → expr_label s ≡ k → Undeclared k
   var_undeclared (const n v) k i h e = false_true h
@@ -140,7 +141,7 @@ again_repeated xs (d ∷ ds) k h = by (is_name d.name xs) refl h (λ j. again_re
       where
         here : (is_name r.decl.name (d.name ∷ xs) ≡ true) ⊎ Declares r.before r.decl.name → (is_name r.decl.name xs ≡ true) ⊎ Declares (d ∷ r.before) r.decl.name
         here (inl e) =
-            elim (either_true (eqb r.decl.name d.name) (is_name r.decl.name xs) e) [
+            elim (or_cases (eqb r.decl.name d.name) (is_name r.decl.name xs) e) [
               | inl q ↦ inr (d, inl refl, sym (eqb-true r.decl.name d.name q))
               | inr q ↦ inl q
             ]
@@ -167,19 +168,11 @@ repeated_again xs [] d rest (inl h) =
 repeated_again xs [] d rest (inr r) = absurd r.1
 repeated_again xs (c ∷ before) d rest h = passed xs c (before ++ (d ∷ rest)) d.label (repeated_again (c.name ∷ xs) before d rest (by h))
   where
-    named : (b : Bool) → b ≡ true → b || is_name d.name xs ≡ true
-    named true e = refl
-    named false e = false_true e
-
-    more : (b : Bool) → is_name d.name xs ≡ true → b || is_name d.name xs ≡ true
-    more true e = refl
-    more false e = e
-
     by : (is_name d.name xs ≡ true) ⊎ Declares (c ∷ before) d.name → (is_name d.name (c.name ∷ xs) ≡ true) ⊎ Declares before d.name
-    by (inl e) = inl (more (eqb d.name c.name) e)
+    by (inl e) = inl (or_right (eqb d.name c.name) (is_name d.name xs) e)
     by (inr r) =
         elim r.1 [
-          | inl q ↦ inl (named (eqb d.name c.name) (eq-eqb d.name c.name (sym (ap (λ (t : Decl ℕ). t.name) q ∙ r.2))))
+          | inl q ↦ inl (or_left (eqb d.name c.name) (is_name d.name xs) (eq-eqb d.name c.name (sym (ap (λ (t : Decl ℕ). t.name) q ∙ r.2))))
           | inr i ↦ inr (r.0, i, r.2)
         ]
 

@@ -1,11 +1,11 @@
 -- The path rule: the nodes that the check finds are those that some path reads while their variable is unset. Assumes nothing.
 use Rattle.std.proofs.Common.{◌≡◌, ℕ, false, not, eqb, ◌⊎◌, List, [], ◌∷◌, ◌++◌, sym, refl, ap, ◌∙◌, subst, inl, inr, ne_eqb}
+use Rattle.std.proofs.lemmas.Bool.{or_parts, or_from, and_cases, and_left, and_right}
 use borrow.Author.Tests.{eqb-false, not-true}
 use Rattle.tosca.specs.Trees.{Expr, const, var, uny, bin, Cmd, skip, assign, seq, choice, loop, input, output}
 use Rattle.statics.specs.Choosing.{Among, chosen_in}
 use Rattle.statics.specs.Setting.{Vars, no_vars, after, unset_in, unset}
 use Rattle.statics.specs.Paths.{Event, reads, sets, reads_of, Path, skips, assigns, both, thens, elses, leaves, turns, inputs, outputs, NotSet, UnsetOn}
-use Rattle.statics.proofs.Booleans.{either_false, neither, one_false, left_false, right_false}
 use Rattle.statics.proofs.Lists.{among_left, among_right, among_append, picked_to, picked_from}
 
 -- events that set x nowhere
@@ -88,13 +88,13 @@ module _ (n x : ℕ) where
   after_path : {c : Cmd ℕ} {p : List Event} → Path c p → (s : Vars) → s x ≡ false → NotSet x p → after c s x ≡ false
   unfolding after
   after_path skips s f h = f
-  after_path (assigns {x = y} {e = e}) s f h = neither (eqb y x) (s x) (ne_eqb y x (not_right x (reads_of e) (sets y ∷ []) h).0) f
+  after_path (assigns {x = y} {e = e}) s f h = or_from (eqb y x) (s x) (ne_eqb y x (not_right x (reads_of e) (sets y ∷ []) h).0) f
   after_path (both {a = a} {p = p} {q = q} u v) s f h = after_path v (after a s) (after_path u s f (not_left x p q h)) (not_right x p q h)
-  after_path (thens {e = e} {a = a} {b = b} {p = p} u) s f h = left_false (after a s x) (after b s x) (after_path u s f (not_right x (reads_of e) p h))
-  after_path (elses {e = e} {a = a} {b = b} {p = p} u) s f h = right_false (after a s x) (after b s x) (after_path u s f (not_right x (reads_of e) p h))
+  after_path (thens {e = e} {a = a} {b = b} {p = p} u) s f h = and_left (after a s x) (after b s x) (after_path u s f (not_right x (reads_of e) p h))
+  after_path (elses {e = e} {a = a} {b = b} {p = p} u) s f h = and_right (after a s x) (after b s x) (after_path u s f (not_right x (reads_of e) p h))
   after_path leaves s f h = f
   after_path (turns u v) s f h = f
-  after_path (inputs {x = y}) s f h = neither (eqb y x) (s x) (ne_eqb y x h.0) f
+  after_path (inputs {x = y}) s f h = or_from (eqb y x) (s x) (ne_eqb y x h.0) f
   after_path outputs s f h = f
 
   -- a path that reads a variable unset passes a node that the check finds
@@ -142,20 +142,20 @@ after_free : (x : ℕ) (s : Vars) (c : Cmd ℕ) → after c s x ≡ false → Fr
 unfolding after
 after_free x s (skip m) h = record { start = h; way = []; is = skips; free = tt }
 after_free x s (assign m y e) h =
-    let r = either_false (eqb y x) (s x) h in
+    let r = or_parts (eqb y x) (s x) h in
     record { start = r.1; way = reads_of e ++ sets y ∷ []; is = assigns; free = not_append x (reads_of e) (sets y ∷ []) (not_reads x e) (eqb-false y x r.0, tt) }
 after_free x s (seq m a b) h =
     let v = after_free x (after a s) b h in
     let u = after_free x s a v.start in
     record { start = u.start; way = u.way ++ v.way; is = both u.is v.is; free = not_append x u.way v.way u.free v.free }
 after_free x s (choice m e a b) h =
-    elim (one_false (after a s x) (after b s x) h) [
+    elim (and_cases (after a s x) (after b s x) h) [
       | inl k ↦ (let u = after_free x s a k in record { start = u.start; way = reads_of e ++ u.way; is = thens u.is; free = not_append x (reads_of e) u.way (not_reads x e) u.free })
       | inr k ↦ (let u = after_free x s b k in record { start = u.start; way = reads_of e ++ u.way; is = elses u.is; free = not_append x (reads_of e) u.way (not_reads x e) u.free })
     ]
 after_free x s (loop m e b) h = record { start = h; way = reads_of e; is = leaves; free = not_reads x e }
 after_free x s (input m y) h =
-    let r = either_false (eqb y x) (s x) h in
+    let r = or_parts (eqb y x) (s x) h in
     record { start = r.1; way = sets y ∷ []; is = inputs; free = (eqb-false y x r.0, tt) }
 after_free x s (output m e) h = record { start = h; way = reads_of e; is = outputs; free = not_reads x e }
 

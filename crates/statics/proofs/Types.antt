@@ -1,29 +1,18 @@
 -- The reading of types, and what has none at fault. Assumes nothing.
-use Rattle.std.proofs.Common.{◌≡◌, ℕ, Bool, true, false, cond, not, ◌&&◌, List, Some, None, Option, sym, refl, ap, ◌∙◌, subst, inl, inr}
-use borrow.Author.Tests.{both_ways}
+use Rattle.std.proofs.Common.{◌≡◌, ℕ, Bool, true, false, cond, not, ◌&&◌, List, Some, None, Ok, Err, Option, is_ok, sym, refl, ap, ◌∙◌, subst, inl, inr}
+use Rattle.std.proofs.lemmas.Bool.{and_parts, cond-false, false_from_ne_true}
+use borrow.Author.Tests.{both_ways, not-true, not-false}
 use Rattle.tosca.specs.declared.operators.SimpleType.{SimpleType}
 use Rattle.tosca.specs.declared.operators.SimpleType.TheVariants.{Integer, Boolean}
 use Rattle.tosca.specs.declared.operators.Unary.{Unary}
 use Rattle.tosca.specs.declared.operators.Binary.{Binary}
 use Rattle.tosca.specs.Trees.{Expr, const, var, uny, bin, Cmd, skip, assign, seq, choice, loop, input, output, Decl}
 use Rattle.draft.specs.Subtrees.{InExpr, ExprIn, CmdIn}
-use Rattle.statics.specs.declared.verdict.Verdict.{Verdict}
-use Rattle.statics.specs.declared.verdict.Verdict.TheVariants.{Typed, Wrong, AtFault}
+use Rattle.statics.specs.declared.verdict.TypeError.TheVariants.{Wrong, AtFault}
 use Rattle.statics.specs.Folding.{fold}
-use Rattle.statics.specs.Typing.{decl_of, declared_type, type_in, is_declared, value_type, unary_type, binary_takes, binary_gives, HasType, WellTyped, same_type, variable_verdict, unary_verdict, binary_verdict, verdict, is_at_fault, mismatched, is_no_test, ill_typed, undeclared_var, undeclared_target}
+use Rattle.statics.specs.Typing.{Verdict, decl_of, declared_type, type_in, is_declared, value_type, unary_type, binary_takes, binary_gives, HasType, WellTyped, same_type, variable_verdict, unary_verdict, binary_verdict, verdict, is_at_fault, mismatched, is_no_test, ill_typed, undeclared_var, undeclared_target}
 use Rattle.statics.specs.StaticLaws.{Misapplied, Mistyped, VerdictMeans}
-use Rattle.statics.proofs.Booleans.{false_true, true_false, both_true}
-
--- two variants are never equal
-abbrev is_right : Verdict → Type 0
-is_right (Typed y) = Unit {0}
-is_right Wrong = ⊥
-is_right AtFault = ⊥
-
-abbrev is_bad : Verdict → Type 0
-is_bad (Typed y) = ⊥
-is_bad Wrong = ⊥
-is_bad AtFault = Unit {0}
+use Rattle.statics.proofs.Booleans.{false_true, true_false}
 
 same_true : (y z : SimpleType) → same_type y z ≡ true → y ≡ z
 same_true Integer Integer e = refl
@@ -44,31 +33,30 @@ other Integer Boolean h = refl
 other Boolean Integer h = refl
 other Boolean Boolean h = absurd (h refl)
 
+-- what an operator gives, where the test says whether it takes its operands
+given : (b : Bool) (t y : SimpleType) → cond b (Ok t) (Err AtFault) ≡ Ok y → (b ≡ true) × (t ≡ y)
+given true t y e = (refl, cc)
+given false t y e = false_true (ap is_ok e)
+
+refused : (b : Bool) (t : SimpleType) → cond b (Ok t) (Err AtFault) ≡ Err AtFault → b ≡ false
+refused true t e = true_false (ap is_ok e)
+refused false t e = refl
+
+taken : (b : Bool) (t : SimpleType) → is_at_fault (cond b (Ok t) (Err AtFault)) ≡ false → b ≡ true
+taken true t e = refl
+taken false t e = true_false e
+
 -- an operator of one operand
-unary_typed : (o : Unary) (v : Verdict) (y : SimpleType) → unary_verdict o v ≡ Typed y → (unary_type o ≡ y) × (v ≡ Typed (unary_type o))
-unary_typed o (Typed z) y e = by (same_type z (unary_type o)) refl e
-  where
-    by : (b : Bool) → same_type z (unary_type o) ≡ b → cond b (Typed (unary_type o)) AtFault ≡ Typed y → (unary_type o ≡ y) × (Typed z ≡ Typed (unary_type o))
-    by true q e = (cc, ap Typed (same_true z (unary_type o) q))
-    by false q e = absurd (subst is_bad e tt)
-unary_typed o Wrong y e = absurd (subst is_right (sym e) tt)
-unary_typed o AtFault y e = absurd (subst is_right (sym e) tt)
+unary_typed : (o : Unary) (v : Verdict) (y : SimpleType) → unary_verdict o v ≡ Ok y → (unary_type o ≡ y) × (v ≡ Ok (unary_type o))
+unary_typed o (Ok z) y e = let r = given (same_type z (unary_type o)) (unary_type o) y e in (r.1, ap Ok (same_true z (unary_type o) r.0))
+unary_typed o (Err w) y e = false_true (ap is_ok e)
 
-unary_fault : (o : Unary) (v : Verdict) → unary_verdict o v ≡ AtFault → (y : SimpleType) × (v ≡ Typed y) × (y ≡ unary_type o → ⊥)
-unary_fault o (Typed z) e = by (same_type z (unary_type o)) refl e
-  where
-    by : (b : Bool) → same_type z (unary_type o) ≡ b → cond b (Typed (unary_type o)) AtFault ≡ AtFault → (y : SimpleType) × (Typed z ≡ Typed y) × (y ≡ unary_type o → ⊥)
-    by true q e = absurd (subst is_right e tt)
-    by false q e = (z, refl, same_false z (unary_type o) q)
-unary_fault o Wrong e = absurd (subst is_bad (sym e) tt)
-unary_fault o AtFault e = absurd (subst is_bad (sym e) tt)
+unary_fault : (o : Unary) (v : Verdict) → unary_verdict o v ≡ Err AtFault → (y : SimpleType) × (v ≡ Ok y) × (y ≡ unary_type o → ⊥)
+unary_fault o (Ok z) e = (z, refl, same_false z (unary_type o) (refused (same_type z (unary_type o)) (unary_type o) e))
+unary_fault o (Err w) e = false_true (ap is_at_fault e)
 
-unary_not_at : (o : Unary) (y : SimpleType) → is_at_fault (unary_verdict o (Typed y)) ≡ false → y ≡ unary_type o
-unary_not_at o y h = by (same_type y (unary_type o)) refl h
-  where
-    by : (b : Bool) → same_type y (unary_type o) ≡ b → is_at_fault (cond b (Typed (unary_type o)) AtFault) ≡ false → y ≡ unary_type o
-    by true q e = same_true y (unary_type o) q
-    by false q e = true_false e
+unary_not_at : (o : Unary) (y : SimpleType) → is_at_fault (unary_verdict o (Ok y)) ≡ false → y ≡ unary_type o
+unary_not_at o y h = same_true y (unary_type o) (taken (same_type y (unary_type o)) (unary_type o) h)
 
 -- an operator of two
 abbrev Both : Binary → SimpleType → SimpleType → Bool
@@ -76,55 +64,42 @@ Both o y z = same_type y (binary_takes o) && same_type z (binary_takes o)
 
 takes_both : (o : Binary) (y z : SimpleType) → Both o y z ≡ true → (y ≡ binary_takes o) × (z ≡ binary_takes o)
 takes_both o y z e =
-    let r = both_true (same_type y (binary_takes o)) (same_type z (binary_takes o)) e in
+    let r = and_parts (same_type y (binary_takes o)) (same_type z (binary_takes o)) e in
     (same_true y (binary_takes o) r.0, same_true z (binary_takes o) r.1)
 
 not_both : (o : Binary) (y z : SimpleType) → Both o y z ≡ false → (y ≡ binary_takes o) × (z ≡ binary_takes o) → ⊥
 not_both o y z e r = both_ways (Both o y z) e (rw (r.0, r.1) (rw (same_refl (binary_takes o)) refl))
 
-binary_typed : (o : Binary) (v w : Verdict) (y : SimpleType) → binary_verdict o v w ≡ Typed y → (binary_gives o ≡ y) × (v ≡ Typed (binary_takes o)) × (w ≡ Typed (binary_takes o))
-binary_typed o (Typed s) (Typed t) y e = by (Both o s t) refl e
-  where
-    by : (b : Bool) → Both o s t ≡ b → cond b (Typed (binary_gives o)) AtFault ≡ Typed y → (binary_gives o ≡ y) × (Typed s ≡ Typed (binary_takes o)) × (Typed t ≡ Typed (binary_takes o))
-    by true q e = let r = takes_both o s t q in (cc, ap Typed r.0, ap Typed r.1)
-    by false q e = absurd (subst is_bad e tt)
-binary_typed o (Typed s) Wrong y e = absurd (subst is_right (sym e) tt)
-binary_typed o (Typed s) AtFault y e = absurd (subst is_right (sym e) tt)
-binary_typed o Wrong w y e = absurd (subst is_right (sym e) tt)
-binary_typed o AtFault w y e = absurd (subst is_right (sym e) tt)
+binary_typed : (o : Binary) (v w : Verdict) (y : SimpleType) → binary_verdict o v w ≡ Ok y → (binary_gives o ≡ y) × (v ≡ Ok (binary_takes o)) × (w ≡ Ok (binary_takes o))
+binary_typed o (Ok s) (Ok t) y e =
+    let g = given (Both o s t) (binary_gives o) y e in
+    let r = takes_both o s t g.0 in
+    (g.1, ap Ok r.0, ap Ok r.1)
+binary_typed o (Ok s) (Err w) y e = false_true (ap is_ok e)
+binary_typed o (Err v) w y e = false_true (ap is_ok e)
 
 abbrev Refused : Binary → Verdict → Verdict → Type 0
-Refused o v w = (y : SimpleType) × (z : SimpleType) × (v ≡ Typed y) × (w ≡ Typed z) × ((y ≡ binary_takes o) × (z ≡ binary_takes o) → ⊥)
+Refused o v w = (y : SimpleType) × (z : SimpleType) × (v ≡ Ok y) × (w ≡ Ok z) × ((y ≡ binary_takes o) × (z ≡ binary_takes o) → ⊥)
 
-binary_fault : (o : Binary) (v w : Verdict) → binary_verdict o v w ≡ AtFault → Refused o v w
-binary_fault o (Typed s) (Typed t) e = by (Both o s t) refl e
-  where
-    by : (b : Bool) → Both o s t ≡ b → cond b (Typed (binary_gives o)) AtFault ≡ AtFault → Refused o (Typed s) (Typed t)
-    by true q e = absurd (subst is_right e tt)
-    by false q e = (s, t, refl, refl, not_both o s t q)
-binary_fault o (Typed s) Wrong e = absurd (subst is_bad (sym e) tt)
-binary_fault o (Typed s) AtFault e = absurd (subst is_bad (sym e) tt)
-binary_fault o Wrong w e = absurd (subst is_bad (sym e) tt)
-binary_fault o AtFault w e = absurd (subst is_bad (sym e) tt)
+binary_fault : (o : Binary) (v w : Verdict) → binary_verdict o v w ≡ Err AtFault → Refused o v w
+binary_fault o (Ok s) (Ok t) e = (s, t, refl, refl, not_both o s t (refused (Both o s t) (binary_gives o) e))
+binary_fault o (Ok s) (Err w) e = false_true (ap is_at_fault e)
+binary_fault o (Err v) w e = false_true (ap is_at_fault e)
 
-binary_not_at : (o : Binary) (y z : SimpleType) → is_at_fault (binary_verdict o (Typed y) (Typed z)) ≡ false → (y ≡ binary_takes o) × (z ≡ binary_takes o)
-binary_not_at o y z h = by (Both o y z) refl h
-  where
-    by : (b : Bool) → Both o y z ≡ b → is_at_fault (cond b (Typed (binary_gives o)) AtFault) ≡ false → (y ≡ binary_takes o) × (z ≡ binary_takes o)
-    by true q e = takes_both o y z q
-    by false q e = true_false e
+binary_not_at : (o : Binary) (y z : SimpleType) → is_at_fault (binary_verdict o (Ok y) (Ok z)) ≡ false → (y ≡ binary_takes o) × (z ≡ binary_takes o)
+binary_not_at o y z h = takes_both o y z (taken (Both o y z) (binary_gives o) h)
 
-variable_typed : (t : Option SimpleType) (y : SimpleType) → variable_verdict t ≡ Typed y → t ≡ Some y
+variable_typed : (t : Option SimpleType) (y : SimpleType) → variable_verdict t ≡ Ok y → t ≡ Some y
 variable_typed (Some z) y e = cc
-variable_typed None y e = absurd (subst is_right (sym e) tt)
+variable_typed None y e = false_true (ap is_ok e)
 
-pub at_fault : (v : Verdict) → is_at_fault v ≡ true → v ≡ AtFault
-at_fault (Typed y) e = false_true e
-at_fault Wrong e = false_true e
-at_fault AtFault e = refl
+pub at_fault : (v : Verdict) → is_at_fault v ≡ true → v ≡ Err AtFault
+at_fault (Ok y) e = false_true e
+at_fault (Err Wrong) e = false_true e
+at_fault (Err AtFault) e = refl
 
 module _ (ds : List (Decl ℕ)) where
-  pub typed_has : (e : Expr ℕ) (y : SimpleType) → verdict ds e ≡ Typed y → HasType ds e y
+  pub typed_has : (e : Expr ℕ) (y : SimpleType) → verdict ds e ≡ Ok y → HasType ds e y
   unfolding fold HasType
   typed_has (const n v) y h = cc
   typed_has (var n x) y h = variable_typed (type_in ds x) y h
@@ -133,31 +108,31 @@ module _ (ds : List (Decl ℕ)) where
       let r = binary_typed o (verdict ds a) (verdict ds b) y h in
       (r.0, typed_has a (binary_takes o) r.1, typed_has b (binary_takes o) r.2)
 
-  pub has_typed : (e : Expr ℕ) (y : SimpleType) → HasType ds e y → verdict ds e ≡ Typed y
+  pub has_typed : (e : Expr ℕ) (y : SimpleType) → HasType ds e y → verdict ds e ≡ Ok y
   unfolding fold HasType
-  has_typed (const n v) y h = ap Typed h
+  has_typed (const n v) y h = ap Ok h
   has_typed (var n x) y h = ap variable_verdict h
   has_typed (uny n o e) y h =
-      ap (unary_verdict o) (has_typed e (unary_type o) h.1) ∙ rw (same_refl (unary_type o)) (ap Typed h.0)
+      ap (unary_verdict o) (has_typed e (unary_type o) h.1) ∙ rw (same_refl (unary_type o)) (ap Ok h.0)
   has_typed (bin n a o b) y h =
       ap (λ (v : Verdict). binary_verdict o v (verdict ds b)) (has_typed a (binary_takes o) h.1)
-      ∙ ap (binary_verdict o (Typed (binary_takes o))) (has_typed b (binary_takes o) h.2)
-      ∙ rw (same_refl (binary_takes o)) (ap Typed h.0)
+      ∙ ap (binary_verdict o (Ok (binary_takes o))) (has_typed b (binary_takes o) h.2)
+      ∙ rw (same_refl (binary_takes o)) (ap Ok h.0)
 
-  pub fault_misapplied : (e : Expr ℕ) → verdict ds e ≡ AtFault → Misapplied ds e
+  pub fault_misapplied : (e : Expr ℕ) → verdict ds e ≡ Err AtFault → Misapplied ds e
   unfolding fold
-  fault_misapplied (const n v) h = subst is_right h tt
+  fault_misapplied (const n v) h = true_false (ap is_ok h)
   fault_misapplied (var n x) h = no_variable (type_in ds x) h
     where
-      no_variable : (t : Option SimpleType) → variable_verdict t ≡ AtFault → ⊥
-      no_variable (Some y) h = subst is_right h tt
-      no_variable None h = subst is_bad (sym h) tt
+      no_variable : (t : Option SimpleType) → variable_verdict t ≡ Err AtFault → ⊥
+      no_variable (Some y) h = true_false (ap is_ok h)
+      no_variable None h = false_true (ap is_at_fault h)
   fault_misapplied (uny n o e) h = let r = unary_fault o (verdict ds e) h in (r.0, typed_has e r.0 r.1, r.2)
   fault_misapplied (bin n a o b) h =
       let r = binary_fault o (verdict ds a) (verdict ds b) h in
       (r.0, r.1, typed_has a r.0 r.2, typed_has b r.1 r.3, r.4)
 
-  pub misapplied_fault : (e : Expr ℕ) → Misapplied ds e → verdict ds e ≡ AtFault
+  pub misapplied_fault : (e : Expr ℕ) → Misapplied ds e → verdict ds e ≡ Err AtFault
   unfolding fold
   misapplied_fault (const n v) h = absurd h
   misapplied_fault (var n x) h = absurd h
@@ -165,12 +140,8 @@ module _ (ds : List (Decl ℕ)) where
       ap (unary_verdict o) (has_typed e h.0 h.1) ∙ rw (other h.0 (unary_type o) h.2)
   misapplied_fault (bin n a o b) h =
       ap (λ (v : Verdict). binary_verdict o v (verdict ds b)) (has_typed a h.0 h.2)
-      ∙ ap (binary_verdict o (Typed h.0)) (has_typed b h.1 h.3)
-      ∙ by (Both o h.0 h.1) refl
-    where
-      by : (v : Bool) → Both o h.0 h.1 ≡ v → cond v (Typed (binary_gives o)) AtFault ≡ AtFault
-      by true q = absurd (h.4 (takes_both o h.0 h.1 q))
-      by false q = refl
+      ∙ ap (binary_verdict o (Ok h.0)) (has_typed b h.1 h.3)
+      ∙ cond-false (Both o h.0 h.1) _ _ (false_from_ne_true (Both o h.0 h.1) (λ q. h.4 (takes_both o h.0 h.1 q)))
 
   -- a type for an expression none of whose nodes is at fault, where its names are declared
   pub has_some : (e : Expr ℕ) → ((s : Expr ℕ) → InExpr s e → is_at_fault (verdict ds s) ≡ false) → ((s : Expr ℕ) → InExpr s e → undeclared_var ds s ≡ false) → (y : SimpleType) × HasType ds e y
@@ -192,7 +163,7 @@ module _ (ds : List (Decl ℕ)) where
       let v = has_typed a r.0 r.1 in
       let w = has_typed b t.0 t.1 in
       let g = subst (λ (u : Verdict). is_at_fault (binary_verdict o u (verdict ds b)) ≡ false) v (h (bin n a o b) (inl refl)) in
-      let q = binary_not_at o r.0 t.0 (subst (λ (u : Verdict). is_at_fault (binary_verdict o (Typed r.0) u) ≡ false) w g) in
+      let q = binary_not_at o r.0 t.0 (subst (λ (u : Verdict). is_at_fault (binary_verdict o (Ok r.0) u) ≡ false) w g) in
       (binary_gives o, (refl, subst (HasType ds a) q.0 r.1, subst (HasType ds b) q.1 t.1))
 
   -- each part of what has a type has one
@@ -249,7 +220,7 @@ module _ (ds : List (Decl ℕ)) where
   well_cmds (input n x) s h q = like s (input n x) q refl
   well_cmds (output n e) s h q = like s (output n e) q refl
 
-  test_type : (y : SimpleType) → is_no_test (Typed y) ≡ false → y ≡ Boolean
+  test_type : (y : SimpleType) → is_no_test (Ok y) ≡ false → y ≡ Boolean
   test_type Integer e = true_false e
   test_type Boolean e = refl
 
@@ -260,11 +231,7 @@ module _ (ds : List (Decl ℕ)) where
   -- the two sides of an assignment that is not at fault
   is_assigned : (o : Option (Decl ℕ)) (e : Expr ℕ) (y : SimpleType) → HasType ds e y → not (is_declared o) ≡ false → mismatched (declared_type o) (verdict ds e) ≡ false → declared_type o ≡ Some y
   is_assigned (Some d) e y h k m =
-      ap Some (by (same_type d.type y) refl (subst (λ (v : Verdict). mismatched (Some d.type) v ≡ false) (has_typed e y h) m))
-    where
-      by : (b : Bool) → same_type d.type y ≡ b → not b ≡ false → d.type ≡ y
-      by true q r = same_true d.type y q
-      by false q r = true_false r
+      ap Some (same_true d.type y (not-false (same_type d.type y) (subst (λ (v : Verdict). mismatched (Some d.type) v ≡ false) (has_typed e y h) m)))
   is_assigned None e y h k m = true_false k
 
   -- the command has no node at fault, where its names are declared
@@ -304,21 +271,15 @@ module _ (ds : List (Decl ℕ)) where
   faultless_well (input n x) h = tt
   faultless_well (output n e) h = some e (output n e) (λ s i. i) h
 
-  mismatch : (t : Option SimpleType) (v : Verdict) → mismatched t v ≡ true → (y : SimpleType) × (z : SimpleType) × (t ≡ Some y) × (v ≡ Typed z) × (y ≡ z → ⊥)
-  mismatch (Some y) (Typed z) e = by (same_type y z) refl e
-    where
-      by : (b : Bool) → same_type y z ≡ b → not b ≡ true → (s : SimpleType) × (t : SimpleType) × (Some y ≡ Some s) × (Typed z ≡ Typed t) × (s ≡ t → ⊥)
-      by true q e = false_true e
-      by false q e = (y, z, refl, refl, same_false y z q)
-  mismatch (Some y) Wrong e = false_true e
-  mismatch (Some y) AtFault e = false_true e
+  mismatch : (t : Option SimpleType) (v : Verdict) → mismatched t v ≡ true → (y : SimpleType) × (z : SimpleType) × (t ≡ Some y) × (v ≡ Ok z) × (y ≡ z → ⊥)
+  mismatch (Some y) (Ok z) e = (y, z, refl, refl, same_false y z (not-true (same_type y z) e))
+  mismatch (Some y) (Err w) e = false_true e
   mismatch None v e = false_true e
 
-  no_test : (v : Verdict) → is_no_test v ≡ true → v ≡ Typed Integer
-  no_test (Typed Integer) e = refl
-  no_test (Typed Boolean) e = false_true e
-  no_test Wrong e = false_true e
-  no_test AtFault e = false_true e
+  no_test : (v : Verdict) → is_no_test v ≡ true → v ≡ Ok Integer
+  no_test (Ok Integer) e = refl
+  no_test (Ok Boolean) e = false_true e
+  no_test (Err w) e = false_true e
 
   pub ill_mistyped : (c : Cmd ℕ) → ill_typed ds c ≡ true → Mistyped ds c
   ill_mistyped (skip n) h = false_true h

@@ -7,7 +7,7 @@ use Rattle.tosca.specs.Trees.{Expr, const, var, uny, bin, Cmd, skip, assign, seq
 use Rattle.statics.specs.declared.rules.Rule.{Rule}
 use Rattle.statics.specs.declared.rules.Rule.TheVariants.{DeclaredOnce, Declared, Typed, Set, Temporaries}
 use Rattle.statics.specs.declared.rules.Violation.{Violation}
-use Rattle.statics.specs.declared.verdict.Verdict.TheVariants.{Typed as TypedAs, AtFault}
+use Rattle.statics.specs.declared.verdict.TypeError.TheVariants.{AtFault}
 use Rattle.draft.specs.Subtrees.{expr_label, cmd_label, ExprIn, CmdIn}
 use Rattle.statics.specs.Choosing.{Exactly, Among, Least}
 use Rattle.statics.specs.Typing.{type_in, unary_type, binary_takes, HasType, WellTyped, verdict, ill_typed}
@@ -95,8 +95,8 @@ Mistyped ds (output n e) = ⊥
 
 -- what the reading of types and the test of commands say
 pub record VerdictMeans : Type 0 where
-  pub typed : (ds : List (Decl ℕ)) (e : Expr ℕ) (y : SimpleType) → Exactly (verdict ds e ≡ TypedAs y) (HasType ds e y)
-  pub at_fault : (ds : List (Decl ℕ)) (e : Expr ℕ) → Exactly (verdict ds e ≡ AtFault) (Misapplied ds e)
+  pub typed : (ds : List (Decl ℕ)) (e : Expr ℕ) (y : SimpleType) → Exactly (verdict ds e ≡ Ok y) (HasType ds e y)
+  pub at_fault : (ds : List (Decl ℕ)) (e : Expr ℕ) → Exactly (verdict ds e ≡ Err AtFault) (Misapplied ds e)
   pub command : (ds : List (Decl ℕ)) (c : Cmd ℕ) → Exactly (ill_typed ds c ≡ true) (Mistyped ds c)
 
 -- a declaration whose name an earlier one has, and its node

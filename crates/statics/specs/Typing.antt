@@ -1,13 +1,13 @@
 -- Declarations and types: what is right, and which node is at fault.
-use Rattle.std.specs.Prelude.{◌≡◌, ℕ, Bool, true, false, cond, not, ◌&&◌, List, Some, None, Option}
+use Rattle.std.specs.Prelude.{◌≡◌, ℕ, Bool, true, false, cond, not, ◌&&◌, List, Some, None, Ok, Err, Option, Result}
 use Rattle.tosca.specs.declared.operators.SimpleType.{SimpleType}
 use Rattle.tosca.specs.declared.operators.SimpleType.TheVariants.{Integer, Boolean}
 use Rattle.tosca.specs.declared.operators.Unary.{Unary}
 use Rattle.tosca.specs.declared.operators.Binary.{Binary}
 use Rattle.tosca.specs.Trees.{Expr, const, var, uny, bin, Cmd, skip, assign, seq, choice, loop, input, output, Decl}
 pub use Rattle.tosca.specs.Types.{decl_of, declared_type, type_in, value_type, unary_type, binary_takes, binary_gives, same_type}
-use Rattle.statics.specs.declared.verdict.Verdict.{Verdict}
-use Rattle.statics.specs.declared.verdict.Verdict.TheVariants.{Typed, Wrong, AtFault}
+use Rattle.statics.specs.declared.verdict.TypeError.{TypeError}
+use Rattle.statics.specs.declared.verdict.TypeError.TheVariants.{Wrong, AtFault}
 use Rattle.statics.specs.Folding.{Algebra, fold}
 
 abbrev pub is_declared : Option (Decl ℕ) → Bool
@@ -31,46 +31,45 @@ WellTyped ds (loop n e b) = HasType ds e Boolean × WellTyped ds b
 WellTyped ds (input n x) = Unit {0}
 WellTyped ds (output n e) = (y : SimpleType) × HasType ds e y
 
+-- the type of an expression that is right, or else what is wrong with it
+abbrev pub Verdict : Type 0
+Verdict = Result SimpleType TypeError
+
 abbrev pub variable_verdict : Option SimpleType → Verdict
-variable_verdict (Some y) = Typed y
-variable_verdict None = Wrong
+variable_verdict (Some y) = Ok y
+variable_verdict None = Err Wrong
 
 abbrev pub unary_verdict : Unary → Verdict → Verdict
-unary_verdict o (Typed y) = cond (same_type y (unary_type o)) (Typed (unary_type o)) AtFault
-unary_verdict o Wrong = Wrong
-unary_verdict o AtFault = Wrong
+unary_verdict o (Ok y) = cond (same_type y (unary_type o)) (Ok (unary_type o)) (Err AtFault)
+unary_verdict o (Err w) = Err Wrong
 
 abbrev pub binary_verdict : Binary → Verdict → Verdict → Verdict
-binary_verdict o (Typed y) (Typed z) = cond (same_type y (binary_takes o) && same_type z (binary_takes o)) (Typed (binary_gives o)) AtFault
-binary_verdict o (Typed y) Wrong = Wrong
-binary_verdict o (Typed y) AtFault = Wrong
-binary_verdict o Wrong v = Wrong
-binary_verdict o AtFault v = Wrong
+binary_verdict o (Ok y) (Ok z) = cond (same_type y (binary_takes o) && same_type z (binary_takes o)) (Ok (binary_gives o)) (Err AtFault)
+binary_verdict o (Ok y) (Err w) = Err Wrong
+binary_verdict o (Err w) v = Err Wrong
 
 -- the reading of types, where the variables have the types ty; a name without a type is wrong, and at fault for another rule
 abbrev pub typing : (ℕ → Option SimpleType) → Algebra Verdict
-typing ty = record { constant = λ v. Typed (value_type v); variable = λ x. variable_verdict (ty x); unary = unary_verdict; binary = binary_verdict }
+typing ty = record { constant = λ v. Ok (value_type v); variable = λ x. variable_verdict (ty x); unary = unary_verdict; binary = binary_verdict }
 
 abbrev pub verdict : List (Decl ℕ) → Expr ℕ → Verdict
 verdict ds e = fold (typing (type_in ds)) e
 
 abbrev pub is_at_fault : Verdict → Bool
-is_at_fault (Typed y) = false
-is_at_fault Wrong = false
-is_at_fault AtFault = true
+is_at_fault (Ok y) = false
+is_at_fault (Err Wrong) = false
+is_at_fault (Err AtFault) = true
 
 -- the two sides of an assignment are right and of two types
 abbrev pub mismatched : Option SimpleType → Verdict → Bool
-mismatched (Some y) (Typed z) = not (same_type y z)
-mismatched (Some y) Wrong = false
-mismatched (Some y) AtFault = false
+mismatched (Some y) (Ok z) = not (same_type y z)
+mismatched (Some y) (Err w) = false
 mismatched None v = false
 
 -- a test that is right, and no boolean
 abbrev pub is_no_test : Verdict → Bool
-is_no_test (Typed y) = same_type y Integer
-is_no_test Wrong = false
-is_no_test AtFault = false
+is_no_test (Ok y) = same_type y Integer
+is_no_test (Err w) = false
 
 -- the command itself is at fault
 abbrev pub ill_typed : List (Decl ℕ) → Cmd ℕ → Bool

@@ -2,11 +2,9 @@
 ghost use Rattle.statics.specs.StaticLaws.{StaticLaws, FaultsMean, VerdictMeans};
 ghost use Rattle.statics.specs.Worked.{Worked};
 
-pub fn static_laws() -> u8
+pub fn static_laws()
     ensures judged { StaticLaws }
     ensures faults { FaultsMean }
     ensures verdicts { VerdictMeans }
     ensures worked { Worked }
-{
-    0
-}
+{}

@@ -5,15 +5,15 @@ ghost use Rattle.statics.specs.Checking.{rule_number};
 #[derive(Clone, Copy, PartialEq, Debug)]
 pub enum Rule {
     // each name is declared once
-    DeclaredOnce,
+    DeclaredOnce = 21,
     // each name used is declared
-    Declared,
+    Declared = 22,
     // types are right
-    Typed,
+    Typed = 23,
     // a variable is read only where it is set
-    Set,
+    Set = 24,
     // an expression needs at most 32 temporaries
-    Temporaries,
+    Temporaries = 25,
 }
 
 impl Rule {
@@ -21,13 +21,7 @@ impl Rule {
     pub fn number(self) -> u8
         ensures { result ≡ rule_number self }
     {
-        match self {
-            Rule::DeclaredOnce => 21,
-            Rule::Declared => 22,
-            Rule::Typed => 23,
-            Rule::Set => 24,
-            Rule::Temporaries => 25,
-        }
+        self as u8
     }
 }
 

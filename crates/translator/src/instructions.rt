@@ -5,7 +5,6 @@ ghost use Rattle.aida.specs.Templates.{input_by as input_by_type};
 ghost use Rattle.aida.specs.Values.{number as number_of};
 
 use aida::instructions::Instruction;
-use statics::verdict::Verdict;
 use tosca::operators::{SimpleType, Value};
 use walk::reading::Reading;
 use walk::types::Typing;
@@ -55,7 +54,7 @@ pub(crate) fn input_by(typing: &Typing, name: u16) -> Instruction
     ensures { result ≡ input_by_type (types_of typing.now name) }
 {
     match typing.variable(name) {
-        Verdict::Typed(SimpleType::Boolean) => Instruction::InputBit,
+        Ok(SimpleType::Boolean) => Instruction::InputBit,
         _ => Instruction::Input,
     }
 }

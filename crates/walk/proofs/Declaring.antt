@@ -2,6 +2,7 @@
 use Rattle.std.proofs.Common.{◌≡◌, ℕ, zero, suc, ◌+◌, ◌<◌, ◌≤◌, Bool, true, cond, eqb, List, ◌∷◌, length, get_or, drop, set, replicate, Some, None, Option, sym, refl, ap, ◌∙◌, subst, ⊎_elim, add-one, arith, eq-eqb, ne_eqb}
 use Rattle.std.proofs.lemmas.List.{length-set, get_or-set_same, get_or-set_other, drop_more, drop_all}
 use Rattle.std.proofs.lemmas.Bool.{cases_eq}
+use Rattle.std.specs.Option.{option_or}
 use Rattle.tosca.specs.declared.operators.SimpleType.{SimpleType}
 use Rattle.tosca.specs.declared.table.Entry.{Entry}
 use Rattle.tosca.specs.declared.table.Node.{Node}
@@ -12,17 +13,13 @@ use Rattle.tosca.specs.Decode.{declared, decls_from, program_of}
 use Rattle.draft.specs.Forming.{is_formed}
 use Rattle.draft.proofs.Facts.{decl_fact}
 use Rattle.statics.specs.Typing.{decl_of, declared_type, type_in}
-use Rattle.walk.specs.Gathering.{declaration, first_type}
+use Rattle.walk.specs.Gathering.{declaration}
 
-abbrev pub or_else : {A : Type 0} → Option A → Option A → Option A
-or_else (Some a) b = Some a
-or_else None b = b
+or_none : {A : Type 0} (a : Option A) → option_or a None ≡ a
+or_none (Some a) = refl
+or_none None = refl
 
-or_else_none : {A : Type 0} (a : Option A) → or_else a None ≡ a
-or_else_none (Some a) = refl
-or_else_none None = refl
-
-first_or : (a : Option SimpleType) (y : SimpleType) (b : Option SimpleType) → or_else (first_type a y) b ≡ or_else a (Some y)
+first_or : {A : Type 0} (a : Option A) (y : A) (b : Option A) → option_or (option_or a (Some y)) b ≡ option_or a (Some y)
 first_or (Some z) y b = refl
 first_or None y b = refl
 
@@ -33,10 +30,10 @@ none_yet (suc n) (suc x) = none_yet n x
 
 -- the types so far, with those of the entries from n on, are those of the table
 abbrev pub Gathered : List Entry → ℕ → List (Option SimpleType) → Type 0
-Gathered t n types = (length types ≡ 64) × ((x : ℕ) → or_else (get_or types x None) (type_in (decls_from n (drop n t)) x) ≡ type_in (decls_from 0 t) x)
+Gathered t n types = (length types ≡ 64) × ((x : ℕ) → option_or (get_or types x None) (type_in (decls_from n (drop n t)) x) ≡ type_in (decls_from 0 t) x)
 
 pub gathered_none : (t : List Entry) (types : List (Option SimpleType)) → types ≡ replicate 64 None → Gathered t 0 types
-gathered_none t types e = (ap length e, λ x. ap (λ (ts : List (Option SimpleType)). or_else (get_or ts x None) (type_in (decls_from 0 t) x)) e ∙ ap (λ (a : Option SimpleType). or_else a (type_in (decls_from 0 t) x)) (none_yet 64 x))
+gathered_none t types e = (ap length e, λ x. ap (λ (ts : List (Option SimpleType)). option_or (get_or ts x None) (type_in (decls_from 0 t) x)) e ∙ ap (λ (a : Option SimpleType). option_or a (type_in (decls_from 0 t) x)) (none_yet 64 x))
 
 decls_more : (t : List Entry) (n : ℕ) → n < length t → decls_from n (drop n t) ≡ declared n (node (get_or t n blank)) (decls_from (n + 1) (drop (n + 1) t))
 unfolding decls_from
@@ -91,26 +88,26 @@ module _ (t : List Entry) (formed : is_formed t ≡ true) (n : ℕ) (types : Lis
   gathered_same e us is =
       let ds = decls_from (n + 1) (drop (n + 1) t) in
       let same_decls : decls_from n (drop n t) ≡ ds = decls_more t n below ∙ ap (λ (p : Option Node). declared n p ds) node_is ∙ none_declared n o ds (sym said ∙ e) in
-      subst (Gathered t (n + 1)) (sym is) (inv.0, λ x. ap (λ (us : List (tree.Decl ℕ)). or_else (get_or types x None) (type_in us x)) (sym same_decls) ∙ inv.1 x)
+      subst (Gathered t (n + 1)) (sym is) (inv.0, λ x. ap (λ (us : List (tree.Decl ℕ)). option_or (get_or types x None) (type_in us x)) (sym same_decls) ∙ inv.1 x)
 
-  pub gathered_more : (x : ℕ) (y : SimpleType) → r ≡ Some (x, y) → (us : List (Option SimpleType)) → us ≡ set types x (first_type (get_or types x None) y) → Gathered t (n + 1) us
+  pub gathered_more : (x : ℕ) (y : SimpleType) → r ≡ Some (x, y) → (us : List (Option SimpleType)) → us ≡ set types x (option_or (get_or types x None) (Some y)) → Gathered t (n + 1) us
   gathered_more x y e us is =
       let ds = decls_from (n + 1) (drop (n + 1) t) in
       let one : tree.Decl ℕ = record { label = n; name = x; type = y } in
       let more : decls_from n (drop n t) ≡ one ∷ ds = decls_more t n below ∙ ap (λ (p : Option Node). declared n p ds) (node_is ∙ decl_node o x y (sym said ∙ e)) in
       let within : x < length types = omega (arith, inv.0, name_below x y e) in
-      let later : (z : ℕ) → or_else (get_or types z None) (declared_type (cond (eqb x z) (Some one) (decl_of ds z))) ≡ type_in (decls_from 0 t) z = λ z. ap (λ (us : List (tree.Decl ℕ)). or_else (get_or types z None) (type_in us z)) (sym more) ∙ inv.1 z in
+      let later : (z : ℕ) → option_or (get_or types z None) (declared_type (cond (eqb x z) (Some one) (decl_of ds z))) ≡ type_in (decls_from 0 t) z = λ z. ap (λ (us : List (tree.Decl ℕ)). option_or (get_or types z None) (type_in us z)) (sym more) ∙ inv.1 z in
       subst (Gathered t (n + 1)) (sym is) (
-        length-set types x (first_type (get_or types x None) y) ∙ inv.0,
+        length-set types x (option_or (get_or types x None) (Some y)) ∙ inv.0,
         λ z. ⊎_elim
-            (λ (q : x ≡ z). subst (λ (z : ℕ). or_else (get_or (set types x (first_type (get_or types x None) y)) z None) (type_in ds z) ≡ type_in (decls_from 0 t) z) q
-            (ap (λ (a : Option SimpleType). or_else a (type_in ds x)) (get_or-set_same types x (first_type (get_or types x None) y) None within)
+            (λ (q : x ≡ z). subst (λ (z : ℕ). option_or (get_or (set types x (option_or (get_or types x None) (Some y))) z None) (type_in ds z) ≡ type_in (decls_from 0 t) z) q
+            (ap (λ (a : Option SimpleType). option_or a (type_in ds x)) (get_or-set_same types x (option_or (get_or types x None) (Some y)) None within)
             ∙ first_or (get_or types x None) y (type_in ds x)
-            ∙ sym (ap (λ (b : Bool). or_else (get_or types x None) (declared_type (cond b (Some one) (decl_of ds x)))) (eq-eqb x x refl))
+            ∙ sym (ap (λ (b : Bool). option_or (get_or types x None) (declared_type (cond b (Some one) (decl_of ds x)))) (eq-eqb x x refl))
             ∙ later x))
             (λ (ne : x ≡ z → ⊥).
-            ap (λ (a : Option SimpleType). or_else a (type_in ds z)) (get_or-set_other types x z (first_type (get_or types x None) y) None (λ q. ne (sym q)))
-            ∙ sym (ap (λ (b : Bool). or_else (get_or types z None) (declared_type (cond b (Some one) (decl_of ds z)))) (ne_eqb x z ne))
+            ap (λ (a : Option SimpleType). option_or a (type_in ds z)) (get_or-set_other types x z (option_or (get_or types x None) (Some y)) None (λ q. ne (sym q)))
+            ∙ sym (ap (λ (b : Bool). option_or (get_or types z None) (declared_type (cond b (Some one) (decl_of ds z)))) (ne_eqb x z ne))
             ∙ later z)
             (cases_eq x z),
       )
@@ -118,6 +115,6 @@ module _ (t : List Entry) (formed : is_formed t ≡ true) (n : ℕ) (types : Lis
 pub gathered_all : (t : List Entry) (n : ℕ) (types : List (Option SimpleType)) → Gathered t n types → (es : List Entry) → es ≡ t → length es ≤ n → (x : ℕ) → get_or types x None ≡ type_in (program_of t).decls x
 unfolding program_of decls_from
 gathered_all t n types inv es same h x =
-    sym (or_else_none (get_or types x None))
-    ∙ sym (ap (λ (us : List Entry). or_else (get_or types x None) (type_in (decls_from n us) x)) (drop_all n t (subst (λ (j : ℕ). j ≤ n) (ap length same) h)))
+    sym (or_none (get_or types x None))
+    ∙ sym (ap (λ (us : List Entry). option_or (get_or types x None) (type_in (decls_from n us) x)) (drop_all n t (subst (λ (j : ℕ). j ≤ n) (ap length same) h)))
     ∙ inv.1 x

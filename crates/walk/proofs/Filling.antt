@@ -1,6 +1,5 @@
 -- How the walk fills its answers, one entry after another. Assumes nothing.
-use Rattle.std.proofs.Common.{◌≡◌, ℕ, zero, suc, ◌+◌, ◌-◌, ◌<◌, ◌≤◌, true, ◌⊎◌, List, [], ◌∷◌, ◌++◌, length, get_or, take, drop, set, Some, None, Option, sym, refl, ap, ◌∙◌, subst, ap₂, inl, inr, ⊎_elim, append_assoc, append-nil, add-zero, add-suc, suc-add, zero-add, arith}
-use native.Mathlib.Nat.{sub-zero}
+use Rattle.std.proofs.Common.{◌≡◌, ℕ, zero, suc, ◌+◌, ◌<◌, ◌≤◌, min, true, ◌⊎◌, List, [], ◌∷◌, ◌++◌, length, get_or, take, drop, set, Some, None, Option, sym, refl, ap, ◌∙◌, subst, ap₂, inl, inr, ⊎_elim, append_assoc, append-nil, add-zero, add-suc, suc-add, zero-add, arith}
 use Rattle.std.proofs.lemmas.List.{length-append, length-take, length-drop, length-take-le, get_or-take, get_or_past, set_at, take_all, drop_all, take_at, take_more, drop_more, take-append-drop}
 use Rattle.std.proofs.lemmas.Bool.{cases_lt}
 use Rattle.tosca.specs.declared.table.Entry.{Entry}
@@ -179,47 +178,48 @@ none_by is_cmd w a e = refl
 none_by is_program w a e = refl
 none_by is_none w a e = refl
 
--- one turn of the walk at the entry n, with the answers xs before the walk and ys before the turn
-module _ {A : Type 0} (g : Algebra A) (t : List Entry) (formed : is_formed t ≡ true) (xs ys : List A) (n : ℕ) (inv : ys ≡ partly (fold g) t n xs) where
-  pub turn_length : length ys ≡ length xs
-  turn_length = ap length inv ∙ length_partly (fold g) t n xs
-
-  room : n < length ys → n < length xs
-  room h = subst (λ (j : ℕ). n < j) turn_length h
-
-  turn_is : n < length t → n < length ys → (d : A) → answered g (λ k. get_or (take (n - 0) ys) k d) (node (get_or t n blank)) ≡ if_expr (sort (node (get_or t n blank))) (Some (fold g (expr_at t n))) None
-  turn_is lt h d =
-      answered_is t formed n lt g (λ k. get_or (take (n - 0) ys) k d)
-      (λ k below e. ap₂ (λ (m : ℕ) (zs : List A). get_or (take m zs) k d) (sub-zero n) inv ∙ partly_front (fold g) t xs n k d below (omega (arith, room h)) e)
-
-  module _ (es : List Entry) (same : es ≡ t) (lt : n < length es) (h : n < length ys) (o : Option Node) (read : o ≡ node (get_or es n blank)) (r : Option A) (said : (d : A) → r ≡ answered g (λ k. get_or (take (n - 0) ys) k d) o) where
-    below : n < length t
-    below = subst (λ (j : ℕ). n < j) (ap length same) lt
-
-    said_is : (d : A) → r ≡ if_expr (sort (node (get_or t n blank))) (Some (fold g (expr_at t n))) None
-    said_is d = said d ∙ ap (answered g (λ k. get_or (take (n - 0) ys) k d)) (read ∙ ap (λ (us : List Entry). node (get_or us n blank)) same) ∙ turn_is below h d
-
-    pub turn_some : (v : A) → r ≡ Some v → (zs : List A) → zs ≡ set ys n v → zs ≡ partly (fold g) t (n + 1) xs
-    turn_some v e zs z =
-        z
-        ∙ ap (λ (zs : List A). set zs n v) inv
-        ∙ put_more (fold g) t xs n v (room h) (some_by (sort (node (get_or t n blank))) v (fold g (expr_at t n)) (get_or xs n v) (sym e ∙ said_is v))
-
-    pub turn_none : r ≡ None → (zs : List A) → zs ≡ ys → zs ≡ partly (fold g) t (n + 1) xs
-    turn_none e zs z = by xs refl
-      where
-        by : (us : List A) → xs ≡ us → zs ≡ partly (fold g) t (n + 1) xs
-        by [] q = let none = ap length q in absurd (omega (arith, room h))
-        by (d ∷ us) q = z ∙ inv ∙ keep_more (fold g) t xs n d (room h) (none_by (sort (node (get_or t n blank))) (fold g (expr_at t n)) (get_or xs n d) (sym e ∙ said_is d))
-
-  pub turn_ready : (es : List Entry) → es ≡ t → n < length es → n < length ys → (o : Option Node) → o ≡ node (get_or es n blank) → Ready (length (take (n - 0) ys)) o
-  turn_ready es same lt h o read =
-      let long : n ≡ length (take (n - 0) ys) = sym (length-take-le n ys (omega arith)) ∙ ap (λ (m : ℕ). length (take m ys)) (sym (sub-zero n)) in
-      let o_is : node (get_or t n blank) ≡ o = sym (read ∙ ap (λ (us : List Entry). node (get_or us n blank)) same) in
-      subst (λ (m : ℕ). Ready m o) long (subst (λ (p : Option Node). Ready n p) o_is (ready t formed n (subst (λ (j : ℕ). n < j) (ap length same) lt)))
+-- one turn of the walk at the entry n, with the answers xs before the walk and ys before the turn, where the entries es
+-- are walked as far as there is room
+module _ {A : Type 0} (g : Algebra A) (t : List Entry) (formed : is_formed t ≡ true) (xs ys : List A) (n : ℕ) (inv : ys ≡ partly (fold g) t n xs) (es : List Entry) (same : es ≡ t) (room : ℕ) (least : room ≡ min (length xs) (length es)) where
+  walked : length (take room es) ≡ min (length xs) (length t)
+  walked = omega (arith, length-take room es, least, ap length same)
 
   -- where the table ends, or the room
-  pub turn_last : (es : List Entry) → es ≡ t → (length es ≤ n) ⊎ (length ys ≤ n) → ys ≡ filled_by (fold g) t 0 xs
-  turn_last es same h =
-      inv ∙ partly_all (fold g) t xs n
-      (⊎_elim (λ l. inl (subst (λ (j : ℕ). j ≤ n) (ap length same) l)) (λ l. inr (subst (λ (j : ℕ). j ≤ n) turn_length l)) h)
+  pub turn_last : length (take room es) ≤ n → ys ≡ filled_by (fold g) t 0 xs
+  turn_last h =
+      inv ∙ partly_all (fold g) t xs n (⊎_elim (λ (l : n < length t). inr (omega (arith, walked))) (λ (l : length t ≤ n). inl l) (cases_lt n (length t)))
+
+  module _ (lt : n < length (take room es)) (o : Option Node) (read : o ≡ node (get_or (take room es) n blank)) where
+    below : n < length t
+    below = omega (arith, walked)
+
+    within : n < length xs
+    within = omega (arith, walked)
+
+    node_is : node (get_or t n blank) ≡ o
+    node_is = sym (read ∙ ap node (get_or-take room es n blank (omega (arith, length-take room es)) ∙ ap (λ (us : List Entry). get_or us n blank) same))
+
+    pub turn_ready : Ready (length (take n ys)) o
+    turn_ready =
+        let long : n ≡ length (take n ys) = sym (length-take-le n ys (omega (arith, within, ap length inv, length_partly (fold g) t n xs))) in
+        subst (λ (m : ℕ). Ready m o) long (subst (Ready n) node_is (ready t formed n below))
+
+    module _ (r : Option A) (said : (d : A) → r ≡ answered g (λ k. get_or (take n ys) k d) o) where
+      said_is : (d : A) → r ≡ if_expr (sort (node (get_or t n blank))) (Some (fold g (expr_at t n))) None
+      said_is d =
+          said d ∙ ap (answered g (λ k. get_or (take n ys) k d)) (sym node_is)
+          ∙ answered_is t formed n below g (λ k. get_or (take n ys) k d)
+          (λ k lk e. ap (λ (zs : List A). get_or (take n zs) k d) inv ∙ partly_front (fold g) t xs n k d lk (omega (arith, within)) e)
+
+      pub turn_some : (v : A) → r ≡ Some v → (zs : List A) → zs ≡ set ys n v → zs ≡ partly (fold g) t (n + 1) xs
+      turn_some v e zs z =
+          z
+          ∙ ap (λ (zs : List A). set zs n v) inv
+          ∙ put_more (fold g) t xs n v within (some_by (sort (node (get_or t n blank))) v (fold g (expr_at t n)) (get_or xs n v) (sym e ∙ said_is v))
+
+      pub turn_none : r ≡ None → (zs : List A) → zs ≡ ys → zs ≡ partly (fold g) t (n + 1) xs
+      turn_none e zs z = by xs refl
+        where
+          by : (us : List A) → xs ≡ us → zs ≡ partly (fold g) t (n + 1) xs
+          by [] q = let none = ap length q in absurd (omega (arith, within))
+          by (d ∷ us) q = z ∙ inv ∙ keep_more (fold g) t xs n d within (none_by (sort (node (get_or t n blank))) (fold g (expr_at t n)) (get_or xs n d) (sym e ∙ said_is d))

@@ -10,8 +10,7 @@ use Rattle.tosca.specs.Trees.{Expr, const, var, uny, bin}
 use Rattle.tosca.specs.Trees as tree
 use Rattle.tosca.specs.Decode.{earlier, no_expr, expr_of, expr_by, expr_at}
 use Rattle.statics.specs.Folding.{fold}
-use Rattle.statics.specs.declared.verdict.Verdict.{Verdict}
-use Rattle.statics.specs.Typing.{type_in, typing, verdict}
+use Rattle.statics.specs.Typing.{Verdict, type_in, typing, verdict}
 use Rattle.statics.specs.Temporaries.{need}
 use Rattle.walk.specs.Walking.{filled_by, filled}
 use Rattle.walk.specs.Readings.{needing, holds, variables, Reads, SetRead, EachReads}

@@ -20,8 +20,3 @@ declaration (Some (Input x)) = None
 declaration (Some (Output a)) = None
 declaration (Some (Program a)) = None
 declaration None = None
-
--- a type that stands stays
-abbrev pub first_type : Option SimpleType → SimpleType → Option SimpleType
-first_type (Some y) z = Some y
-first_type None z = Some z

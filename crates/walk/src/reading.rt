@@ -13,6 +13,7 @@ pub trait Reading {
     fn constant(&self, value: Value) -> Self::Answer
         ensures { result ≡ (algebra self.now).constant value };
 
+    // a bound, and no type that has it: a node may hold any u16, so each pattern that binds a name would still need the proof
     fn variable(&self, name: u16) -> Self::Answer
         requires { name < 64 }
         ensures { result ≡ (algebra self.now).variable name };

@@ -8,10 +8,10 @@ ghost use Rattle.walk.specs.Readings.{types_of};
 use crate::reading::Reading;
 use crate::walking::walk;
 use draft::draft::Draft;
-use statics::verdict::Verdict;
+use statics::verdict::{TypeError, Verdict};
 use tosca::operators::{Binary, SimpleType, Unary, Value};
 
-// The types of the names; a name that is not declared has none.
+// The types of the names by their numbers, in fixed memory; a name that is not declared has none.
 #[derive(Drop)]
 pub struct Typing {
     pub(crate) types: [Option<SimpleType>; 64],
@@ -41,11 +41,8 @@ fn binary_takes(op: Binary) -> SimpleType
     ensures { result ≡ binary_takes_of op }
 {
     match op {
-        Binary::Add | Binary::Subtract | Binary::Multiply | Binary::Divide | Binary::Round => {
-            SimpleType::Integer
-        }
-        Binary::Less | Binary::Greater | Binary::Equal => SimpleType::Integer,
         Binary::And | Binary::Or => SimpleType::Boolean,
+        _ => SimpleType::Integer,
     }
 }
 
@@ -56,8 +53,7 @@ fn binary_gives(op: Binary) -> SimpleType
         Binary::Add | Binary::Subtract | Binary::Multiply | Binary::Divide | Binary::Round => {
             SimpleType::Integer
         }
-        Binary::Less | Binary::Greater | Binary::Equal => SimpleType::Boolean,
-        Binary::And | Binary::Or => SimpleType::Boolean,
+        _ => SimpleType::Boolean,
     }
 }
 
@@ -67,39 +63,29 @@ impl Reading for Typing {
     ghost algebra = { λ s. typing (types_of s) };
 
     fn constant(&self, value: Value) -> Verdict {
-        Verdict::Typed(value_type(value))
+        Ok(value_type(value))
     }
 
     fn variable(&self, name: u16) -> Verdict {
-        match self.types[name as usize] {
-            Some(typ) => Verdict::Typed(typ),
-            None => Verdict::Wrong,
-        }
+        self.types[name as usize].ok_or(TypeError::Wrong)
     }
 
     fn unary(&self, op: Unary, operand: Verdict) -> Verdict {
-        match operand {
-            Verdict::Typed(typ) => {
-                if typ == unary_type(op) {
-                    Verdict::Typed(unary_type(op))
-                } else {
-                    Verdict::AtFault
-                }
-            }
-            Verdict::Wrong | Verdict::AtFault => Verdict::Wrong,
+        let typ = operand.map_err(|_| TypeError::Wrong)?;
+        if typ == unary_type(op) {
+            Ok(typ)
+        } else {
+            Err(TypeError::AtFault)
         }
     }
 
     fn binary(&self, op: Binary, left: Verdict, right: Verdict) -> Verdict {
-        match (left, right) {
-            (Verdict::Typed(a), Verdict::Typed(b)) => {
-                if a == binary_takes(op) && b == binary_takes(op) {
-                    Verdict::Typed(binary_gives(op))
-                } else {
-                    Verdict::AtFault
-                }
-            }
-            _ => Verdict::Wrong,
+        let left = left.map_err(|_| TypeError::Wrong)?;
+        let right = right.map_err(|_| TypeError::Wrong)?;
+        if left == binary_takes(op) && right == binary_takes(op) {
+            Ok(binary_gives(op))
+        } else {
+            Err(TypeError::AtFault)
         }
     }
 }

@@ -27,11 +27,11 @@ fn answer<R: Reading>(reading: &R, node: Option<Node>, parts: &[R::Answer]) -> O
 pub fn walk<R: Reading>(reading: &R, draft: &Draft, answers: &mut [R::Answer])
     ensures { answers.new ≡ filled (R.algebra reading.now) (entries_of draft.now) 0 answers.old }
 {
-    for (n, entry) in draft.entries().iter().enumerate() {
-        if n >= answers.len() {
-            return;
-        }
-        if let Some(found) = answer(reading, entry.node(), &answers[0..n]) {
+    let entries = draft.entries();
+    let room = answers.len().min(entries.len());
+    // the answers are indexed, since each is worked out from earlier ones
+    for (n, entry) in entries[..room].iter().enumerate() {
+        if let Some(found) = answer(reading, entry.node(), &answers[..n]) {
             answers[n] = found;
         }
     }

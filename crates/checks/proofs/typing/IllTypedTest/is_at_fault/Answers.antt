@@ -4,9 +4,6 @@ use Rattle.draft.proofs.Facts.{assign_fact}
 use Rattle.checks.proofs.Within.{node_below, tested_part}
 use Rattle.checks.proofs.typing.IllTypedTest.is_at_fault.Goals as goal
 
-pub on-requires : goal.on-requires
-on-requires c = node_below c.args.draft.now c.args.n c.requires
-
 pub variable-requires : goal.variable-requires
 variable-requires c = (assign_fact (entries_of c.args.draft.now) c.args.draft.now.formed c.args.n c.requires c.in-Assign.ensures).0
 

@@ -1,4 +1,4 @@
-use Rattle.std.proofs.Common.{ap, ◌∙◌}
+use Rattle.std.proofs.Common.{refl, ap, ◌∙◌}
 use Rattle.walk.specs.declared.types.Typing.{Typing}
 use Rattle.walk.proofs.Declaring.{gathered_none, gathered_more, gathered_same, gathered_all, name_below}
 use Rattle.walk.proofs.types.Typing.of.Goals as goal
@@ -21,7 +21,7 @@ loop-entry-preserved c =
     ]
 
 pub loop-entry-init : goal.loop-entry-init
-loop-entry-init c = gathered_none _ _ c.undeclared-typing.ensures
+loop-entry-init c = gathered_none _ _ refl
 
 pub returns : goal.returns
 returns c = gathered_all _ _ _ c.loop-entry.invariant _ c.entries-entry-items.ensures c.loop-entry-test.false

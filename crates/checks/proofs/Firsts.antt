@@ -1,21 +1,17 @@
 -- Going through numbers for the first that a test chooses. Assumes nothing.
-use Rattle.std.proofs.Common.{◌≡◌, ℕ, zero, suc, ◌+◌, ◌-◌, ◌<◌, ◌≤◌, Bool, true, false, cond, Some, None, sym, refl, ap, ◌∙◌, add-one, arith}
-use Rattle.std.proofs.lemmas.Bool.{cond-true, cond-false}
+use Rattle.std.proofs.Common.{◌≡◌, ℕ, zero, suc, ◌+◌, ◌<◌, ◌≤◌, Bool, cond, Some, Option, sym, refl, ap, ◌∙◌, add-one, arith}
+use Rattle.std.specs.List.{find, range_with_len}
+use Rattle.std.specs.Option.{option_map}
+use Rattle.std.proofs.lemmas.Iterator.Adapters.{option_map_id}
 use Rattle.statics.specs.Scanning.{first_of}
 
--- of the numbers below m, those from i on: the first is at i, or further on
-module _ (f : ℕ → Bool) (m i : ℕ) (below : i < m) where
-  first_step : first_of f i (m - i) ≡ cond (f i) (Some i) (first_of f (suc i) (m - suc i))
-  first_step = let e : m - i ≡ suc (m - suc i) = omega arith in ap (first_of f i) e
+found_of : (f : ℕ → Bool) (i n : ℕ) → find f (range_with_len i n) ≡ first_of f i n
+found_of f i zero = refl
+found_of f i (suc n) = ap (λ (o : Option ℕ). cond (f i) (Some i) o) (found_of f (i + 1) n ∙ ap (λ (k : ℕ). first_of f k n) (add-one i))
 
-  pub first_here : true ≡ f i → first_of f i (m - i) ≡ Some i
-  first_here h = first_step ∙ cond-true (f i) (Some i) (first_of f (suc i) (m - suc i)) (sym h)
-
-  pub first_later : false ≡ f i → first_of f i (m - i) ≡ first_of f (i + 1) (m - (i + 1))
-  first_later h = first_step ∙ cond-false (f i) (Some i) (first_of f (suc i) (m - suc i)) (sym h) ∙ ap (λ (k : ℕ). first_of f k (m - k)) (sym (add-one i))
-
-pub first_none : (f : ℕ → Bool) (m : ℕ) → first_of f m (m - m) ≡ None
-first_none f m = let e : m - m ≡ 0 = omega arith in ap (first_of f m) e
+-- the first number below m that a test chooses
+pub first_found : (f : ℕ → Bool) (m : ℕ) {n : ℕ} {r : Option ℕ} → n ≡ m → option_map (λ (k : ℕ). k) r ≡ find f (range_with_len 0 n) → r ≡ first_of f 0 m
+first_found f m {n} {r} e h = sym (option_map_id r) ∙ h ∙ found_of f 0 n ∙ ap (first_of f 0) e
 
 -- tests that agree choose the same
 pub first_same : (f g : ℕ → Bool) (i n : ℕ) → ((k : ℕ) → i ≤ k → k < i + n → f k ≡ g k) → first_of f i n ≡ first_of g i n

@@ -16,6 +16,15 @@ use crate::typing::ill_typed;
 use draft::draft::Draft;
 use statics::rules::{Rule, Violation};
 
+// The rules in their order.
+const RULES: [Rule; 5] = [
+    Rule::DeclaredOnce,
+    Rule::Declared,
+    Rule::Typed,
+    Rule::Set,
+    Rule::Temporaries,
+];
+
 // The lowest node at fault for a rule.
 fn fault(draft: &Draft, rule: Rule) -> Option<u16>
     ensures { result ≡ lowest (faults rule (tree_of draft.now)) }
@@ -32,21 +41,16 @@ fn fault(draft: &Draft, rule: Rule) -> Option<u16>
 fn ask(draft: &Draft, rule: Rule) -> Result<(), Violation>
     ensures { result ≡ asked rule (lowest (faults rule (tree_of draft.now))) (Ok tt) }
 {
-    match fault(draft, rule) {
-        Some(node) => Err(Violation { rule, node }),
-        None => Ok(()),
-    }
+    fault(draft, rule).map_or(Ok(()), |node| Err(Violation { rule, node }))
 }
 
-// The rules in their order.
 fn ask_all(draft: &Draft) -> Result<(), Violation>
     ensures { result ≡ first_no (DeclaredOnce ∷ Declared ∷ Typed ∷ Set ∷ Temporaries ∷ []) (tree_of draft.now) }
 {
-    ask(draft, Rule::DeclaredOnce)?;
-    ask(draft, Rule::Declared)?;
-    ask(draft, Rule::Typed)?;
-    ask(draft, Rule::Set)?;
-    ask(draft, Rule::Temporaries)
+    for rule in RULES {
+        ask(draft, rule)?;
+    }
+    Ok(())
 }
 
 // Asks a draft the static rules: yes, or the first rule that is broken and the lowest node at fault.

@@ -33,7 +33,7 @@ impl Test for Needs {
 
     fn is_at_fault(&self, draft: &Draft, n: u16) -> bool {
         match node_at(draft, n) {
-            Node::Const(_) | Node::Var(_) | Node::Uny(_, _) | Node::Bin(_, _, _) => {
+            Node::Const(_) | Node::Var(_) | Node::Uny(..) | Node::Bin(..) => {
                 too_many(self.needs[n as usize])
             }
             _ => false,

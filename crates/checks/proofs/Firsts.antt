@@ -1,6 +1,7 @@
 -- Going through numbers for the first that a test chooses. Assumes nothing.
-use Rattle.std.proofs.Common.{◌≡◌, ℕ, zero, suc, ◌+◌, ◌<◌, ◌≤◌, Bool, cond, Some, Option, sym, refl, ap, ◌∙◌, add-one, arith}
-use Rattle.std.specs.List.{find, range_with_len}
+use Rattle.std.proofs.Common.{◌≡◌, ℕ, zero, suc, ◌+◌, ◌<◌, ◌≤◌, Bool, false, cond, List, [], ◌∷◌, length, get_or, Some, Option, sym, refl, ap, ◌∙◌, add-zero, add-one, arith}
+use Rattle.std.specs.List.{find, position_from, range_with_len}
+use Rattle.std.proofs.lemmas.Bool.{cond-false}
 use Rattle.std.specs.Option.{option_map}
 use Rattle.std.proofs.lemmas.Iterator.Adapters.{option_map_id}
 use Rattle.statics.specs.Scanning.{first_of}
@@ -20,3 +21,20 @@ first_same f g i (suc n) h =
     let here : f i ≡ g i = h i (omega arith) (omega arith) in
     let rest : first_of f (suc i) n ≡ first_of g (suc i) n = first_same f g (suc i) n (λ k le lt. h k (omega arith) (omega arith)) in
     λ j. cond (here j) (Some i) (rest j)
+
+-- a scan of a list by a test of its elements
+pub first_scanned : (p f : ℕ → Bool) (i : ℕ) (xs : List ℕ) (d : ℕ) → ((k : ℕ) → k < length xs → p (get_or xs k d) ≡ f (i + k)) → position_from p i xs ≡ first_of f i (length xs)
+first_scanned p f i [] d h = refl
+first_scanned p f i (x ∷ xs) d h =
+    let here : p x ≡ f i = h 0 (omega arith) ∙ ap f (add-zero i) in
+    let rest : position_from p (i + 1) xs ≡ first_of f (suc i) (length xs) =
+    first_scanned p f (i + 1) xs d (λ k lt. h (suc k) (omega arith) ∙ ap f (omega arith)) ∙ ap (λ (j : ℕ). first_of f j (length xs)) (add-one i)
+    in
+    λ j. cond (here j) (Some i) (rest j)
+
+-- past the last number that is chosen
+pub first_past : (f : ℕ → Bool) (i n m : ℕ) → n ≤ m → ((k : ℕ) → i + n ≤ k → f k ≡ false) → first_of f i m ≡ first_of f i n
+first_past f i zero zero le h = refl
+first_past f i zero (suc m) le h = cond-false (f i) (Some i) (first_of f (suc i) m) (h i (omega arith)) ∙ first_past f (suc i) zero m (omega arith) (λ k low. h k (omega arith))
+first_past f i (suc n) zero le h = absurd (omega arith)
+first_past f i (suc n) (suc m) le h = ap (λ (o : Option ℕ). cond (f i) (Some i) o) (first_past f (suc i) n m (omega arith) (λ k low. h k (omega arith)))

@@ -5,9 +5,9 @@ use Rattle.std.proofs.lemmas.List.{get_or-replicate, length-replicate, get_or_pa
 use Rattle.tosca.specs.declared.operators.SimpleType.{SimpleType}
 use Rattle.tosca.specs.declared.table.Entry.{Entry}
 use Rattle.tosca.specs.declared.table.Node.{Node}
-use Rattle.tosca.specs.declared.table.Node.TheVariants.{Decl, Const, Var, Uny, Bin, Skip, Assign, Seq, Choice, Loop, Input, Output, Program}
+use Rattle.tosca.specs.declared.table.Node.TheVariants.{Const, Var, Uny, Bin, Skip, Assign, Seq, Choice, Loop, Input, Output}
 use Rattle.tosca.specs.Table.{blank, node}
-use Rattle.tosca.specs.Opens.{Sort, is_decl, is_expr, is_cmd, is_program, is_none, sort}
+use Rattle.tosca.specs.Opens.{Sort, is_expr, sort}
 use Rattle.tosca.specs.Trees.{Expr, Cmd}
 use Rattle.tosca.specs.Trees as tree
 use Rattle.tosca.specs.Decode.{expr_of, expr_at, cmd_of, cmd_at, program_of}
@@ -43,7 +43,6 @@ module _ (ds : List (tree.Decl ℕ)) (ty : ℕ → Option SimpleType) (same : (x
       by None = refl
 
   names_at : (t : List Entry) (k : ℕ) (o : Option Node) → expr_at t k ≡ expr_of k (expr_at t) o → cmd_at t k ≡ cmd_of k (expr_at t) (cmd_at t) o → chooses_as (undeclared_var ds) (undeclared_target ds) t k (sort o) ≡ of_node (names_undeclared (λ x. variable_verdict (ty x))) o
-  names_at t k (Some (Decl x y)) e c = refl
   names_at t k (Some (Const v)) e c = ap (undeclared_var ds) e
   names_at t k (Some (Var x)) e c = ap (undeclared_var ds) e ∙ lacks_same x
   names_at t k (Some (Uny o a)) e c = ap (undeclared_var ds) e
@@ -55,8 +54,7 @@ module _ (ds : List (tree.Decl ℕ)) (ty : ℕ → Option SimpleType) (same : (x
   names_at t k (Some (Loop a b)) e c = ap (undeclared_target ds) c
   names_at t k (Some (Input x)) e c = ap (undeclared_target ds) c ∙ lacks_same x
   names_at t k (Some (Output a)) e c = ap (undeclared_target ds) c
-  names_at t k (Some (Program a)) e c = refl
-  names_at t k None e c = refl
+  names_at t k _ e c = refl
 
 pub declared_asked : (t : List Entry) (formed : is_formed t ≡ true) (ty : ℕ → Option SimpleType) → ((x : ℕ) → ty x ≡ type_in (program_of t).decls x) → {r : Option ℕ} → r ≡ first_of (λ n. of_node (names_undeclared (λ x. variable_verdict (ty x))) (node (get_or t n blank))) 0 (length t) → r ≡ lowest (faults Declared (program_of t))
 declared_asked t formed ty same {r} h =
@@ -74,7 +72,6 @@ mismatch_same None v = refl
 module _ (t : List Entry) (formed : is_formed t ≡ true) (ds : List (tree.Decl ℕ)) (ty : ℕ → Option SimpleType) (same : (x : ℕ) → ty x ≡ type_in ds x)
     (on : ℕ → Verdict) (told : (k : ℕ) → IsExpr t k → on k ≡ verdict ds (expr_at t k)) (k : ℕ) (below : k < length t) where
   types_at : (o : Option Node) → node (get_or t k blank) ≡ o → chooses_as (λ e. is_at_fault (verdict ds e)) (ill_typed ds) t k (sort o) ≡ of_node (is_ill_typed (λ x. variable_verdict (ty x)) on k) o
-  types_at (Some (Decl x y)) e = refl
   types_at (Some (Const v)) e = ap is_at_fault (sym (told k (ap sort e)))
   types_at (Some (Var x)) e = ap is_at_fault (sym (told k (ap sort e)))
   types_at (Some (Uny o a)) e = ap is_at_fault (sym (told k (ap sort e)))
@@ -88,8 +85,7 @@ module _ (t : List Entry) (formed : is_formed t ≡ true) (ds : List (tree.Decl 
   types_at (Some (Loop a b)) e = ap (ill_typed ds) (cmd_at_loop t formed k below e) ∙ ap is_no_test (sym (told a (loop_fact t formed k below e).1))
   types_at (Some (Input x)) e = ap (ill_typed ds) (cmd_step t k ∙ ap (cmd_of k (expr_at t) (cmd_at t)) e)
   types_at (Some (Output a)) e = ap (ill_typed ds) (cmd_step t k ∙ ap (cmd_of k (expr_at t) (cmd_at t)) e)
-  types_at (Some (Program a)) e = refl
-  types_at None e = refl
+  types_at _ e = refl
 
 pub typed_asked : (t : List Entry) (formed : is_formed t ≡ true) (ty : ℕ → Option SimpleType) → ((x : ℕ) → ty x ≡ type_in (program_of t).decls x) → (on xs : List Verdict) → on ≡ filled (typing ty) t 0 xs → length t ≤ length xs → {r : Option ℕ} → r ≡ first_of (λ n. of_node (is_ill_typed (λ x. variable_verdict (ty x)) (λ k. get_or on k Wrong) n) (node (get_or t n blank))) 0 (length t) → r ≡ lowest (faults TypedRule (program_of t))
 typed_asked t formed ty same on xs is room {r} h =
@@ -102,10 +98,7 @@ typed_asked t formed ty same on xs is room {r} h =
 -- temporaries
 needs_at : (t : List Entry) (k : ℕ) (s : Sort) → ltb 32 (if_expr s (need (expr_at t k)) 0) ≡ chooses_as is_too_large no_cmd t k s
 needs_at t k is_expr = refl
-needs_at t k is_decl = refl
-needs_at t k is_cmd = refl
-needs_at t k is_program = refl
-needs_at t k is_none = refl
+needs_at t k _ = refl
 
 none_past : (t : List Entry) (k : ℕ) → length t ≤ k → chooses is_too_large no_cmd t k ≡ false
 none_past t k h = ap (λ (e : Entry). chooses_as is_too_large no_cmd t k (sort (node e))) (get_or_past t k blank h)
@@ -115,11 +108,11 @@ temporaries_asked t formed on is few =
     let long : length on ≡ 1024 = ap length is ∙ length_filled need t 0 (replicate 1024 0) ∙ length-replicate {A = ℕ} 1024 0 in
     let at : (k : ℕ) → k < length on → ltb 32 (get_or on k 0) ≡ chooses is_too_large no_cmd t (0 + k) =
     λ k lt.
-        let inside : k < length {A = ℕ} (replicate 1024 0) = omega (arith, length-replicate {A = ℕ} 1024 0) in
-        ap (λ (ys : List ℕ). ltb 32 (get_or ys k 0)) is
-        ∙ ap (ltb 32) (filled_get_d need t (replicate 1024 0) k 0 inside ∙ ap (λ (a : ℕ). answer_at need t k a) (get_or-replicate {A = ℕ} 1024 k 0 0 (omega (arith, long))))
-        ∙ needs_at t k (sort (node (get_or t k blank)))
-        ∙ ap (chooses is_too_large no_cmd t) (sym (zero-add k))
+    let inside : k < length {A = ℕ} (replicate 1024 0) = omega (arith, length-replicate {A = ℕ} 1024 0) in
+    ap (λ (ys : List ℕ). ltb 32 (get_or ys k 0)) is
+    ∙ ap (ltb 32) (filled_get_d need t (replicate 1024 0) k 0 inside ∙ ap (λ (a : ℕ). answer_at need t k a) (get_or-replicate {A = ℕ} 1024 k 0 0 (omega (arith, long))))
+    ∙ needs_at t k (sort (node (get_or t k blank)))
+    ∙ ap (chooses is_too_large no_cmd t) (sym (zero-add k))
     in
     first_scanned (ltb 32) (chooses is_too_large no_cmd t) 0 on 0 at
     ∙ ap (first_of (chooses is_too_large no_cmd t) 0) long

@@ -3,7 +3,7 @@ use Rattle.std.proofs.Common.{◌≡◌, ℕ, ◌^◌, ◌<◌, true, List, ◌+
 use lib.Bits.{bit_and, bit_or}
 use Rattle.tosca.specs.declared.table.Entry.{Entry}
 use Rattle.tosca.specs.declared.table.Node.{Node}
-use Rattle.tosca.specs.declared.table.Node.TheVariants.{Decl, Const, Var, Uny, Bin, Skip, Assign, Seq, Choice, Loop, Input, Output, Program}
+use Rattle.tosca.specs.declared.table.Node.TheVariants.{Assign, Seq, Choice, Loop, Input, Output}
 use Rattle.tosca.specs.Table.{blank, node}
 use Rattle.tosca.specs.Trees.{Cmd}
 use Rattle.tosca.specs.Decode.{expr_at, cmd_of, cmd_at}
@@ -66,19 +66,13 @@ module _ (t : List Entry) (formed : is_formed t ≡ true) (n : ℕ) (below : n <
 
   nothing_comes : (m : Node) → ((x a : ℕ) → m ≡ Assign x a → ⊥) → ((a d : ℕ) → m ≡ Seq a d → ⊥) → ((a c d : ℕ) → m ≡ Choice a c d → ⊥) → ((a d : ℕ) → m ≡ Loop a d → ⊥) → ((x : ℕ) → m ≡ Input x → ⊥) → ((a : ℕ) → m ≡ Output a → ⊥) → Comes (cmd_of n (expr_at t) (cmd_at t) (Some m)) (holds b) b None
   unfolding after unset
-  nothing_comes (Decl x y) v w q l i o = record { set = refl; fault = refl }
-  nothing_comes (Const c) v w q l i o = record { set = refl; fault = refl }
-  nothing_comes (Var x) v w q l i o = record { set = refl; fault = refl }
-  nothing_comes (Uny u a) v w q l i o = record { set = refl; fault = refl }
-  nothing_comes (Bin a u c) v w q l i o = record { set = refl; fault = refl }
-  nothing_comes Skip v w q l i o = record { set = refl; fault = refl }
   nothing_comes (Assign x a) v w q l i o = absurd (v x a refl)
   nothing_comes (Seq a c) v w q l i o = absurd (w a c refl)
   nothing_comes (Choice a c d) v w q l i o = absurd (q a c d refl)
   nothing_comes (Loop a c) v w q l i o = absurd (l a c refl)
   nothing_comes (Input x) v w q l i o = absurd (i x refl)
   nothing_comes (Output a) v w q l i o = absurd (o a refl)
-  nothing_comes (Program a) v w q l i o = record { set = refl; fault = refl }
+  nothing_comes _ v w q l i o = record { set = refl; fault = refl }
 
   pub other_comes : (m : Node) → node (get_or t n blank) ≡ Some m → ((x a : ℕ) → m ≡ Assign x a → ⊥) → ((a d : ℕ) → m ≡ Seq a d → ⊥) → ((a c d : ℕ) → m ≡ Choice a c d → ⊥) → ((a d : ℕ) → m ≡ Loop a d → ⊥) → ((x : ℕ) → m ≡ Input x → ⊥) → ((a : ℕ) → m ≡ Output a → ⊥) → {k : ℕ} {f : Option ℕ} → k ≡ b → f ≡ None → Comes (cmd_at t n) (holds b) k f
   other_comes m e v w q l i o {k} {f} h none =

@@ -6,7 +6,7 @@ use Rattle.tosca.specs.declared.operators.Unary.{Unary}
 use Rattle.tosca.specs.declared.operators.Binary.{Binary}
 use Rattle.tosca.specs.declared.table.Entry.{Entry}
 use Rattle.tosca.specs.declared.table.Node.{Node}
-use Rattle.tosca.specs.declared.table.Node.TheVariants.{Decl, Const, Var, Uny, Bin, Skip, Assign, Seq, Choice, Loop, Input, Output, Program}
+use Rattle.tosca.specs.declared.table.Node.TheVariants.{Var, Uny, Bin}
 use Rattle.tosca.specs.Table.{blank, node}
 use Rattle.tosca.specs.Opens.{Sort, sort}
 use Rattle.tosca.specs.Trees.{Expr, const, var, uny, bin}
@@ -65,19 +65,10 @@ module _ (t : List Entry) (formed : is_formed t ≡ true) (n : ℕ) (below : n <
 
   none_at : (m : Node) → ((x : ℕ) → m ≡ Var x → ⊥) → ((o : Unary) (a : ℕ) → m ≡ Uny o a → ⊥) → ((a : ℕ) (o : Binary) (b : ℕ) → m ≡ Bin a o b → ⊥) → lowest (unset_in s (expr_of n (expr_at t) (Some m))) ≡ None
   unfolding chosen_in
-  none_at (Decl x y) v u b = refl
-  none_at (Const c) v u b = refl
   none_at (Var x) v u b = absurd (v x refl)
   none_at (Uny o a) v u b = absurd (u o a refl)
   none_at (Bin a o c) v u b = absurd (b a o c refl)
-  none_at Skip v u b = refl
-  none_at (Assign x a) v u b = refl
-  none_at (Seq a c) v u b = refl
-  none_at (Choice a c d) v u b = refl
-  none_at (Loop a c) v u b = refl
-  none_at (Input x) v u b = refl
-  none_at (Output a) v u b = refl
-  none_at (Program a) v u b = refl
+  none_at _ v u b = refl
 
   pub other_unset : (m : Node) → node (get_or t n blank) ≡ Some m → ((x : ℕ) → m ≡ Var x → ⊥) → ((o : Unary) (a : ℕ) → m ≡ Uny o a → ⊥) → ((a : ℕ) (o : Binary) (b : ℕ) → m ≡ Bin a o b → ⊥) → None ≡ lowest (unset_in s (expr_at t n))
   other_unset m e v u b = sym (ap (λ (d : Expr ℕ). lowest (unset_in s d)) (expr_step t n ∙ ap (expr_of n (expr_at t)) e) ∙ none_at m v u b)

@@ -144,8 +144,12 @@ impl Reads<'_> {
 pub(crate) fn unset_variable(draft: &Draft) -> Option<u16>
     ensures { result ≡ lowest (faults Set (tree_of draft.now)) }
 {
+    // No call allocates, so a draft's nodes have room in an array.
     let mut reads = [Names::none(); MAX_NODES];
     variables_read(draft, &mut reads);
-    let reads = Reads { draft, reads: &reads };
+    let reads = Reads {
+        draft,
+        reads: &reads,
+    };
     reads.follow(body(draft), Names::none()).fault
 }

@@ -15,6 +15,7 @@ const MAX_TEMPORARIES: u16 = 32;
 pub(crate) fn too_large(draft: &Draft) -> Option<u16>
     ensures { result ≡ lowest (faults Temporaries (tree_of draft.now)) }
 {
+    // No call allocates, so a draft's nodes have room in an array.
     let mut needs = [0; MAX_NODES];
     temporaries(draft, &mut needs);
     let found = needs.iter().position(|need| *need > MAX_TEMPORARIES);

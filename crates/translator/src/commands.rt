@@ -15,7 +15,7 @@ use draft::draft::Draft;
 use tosca::table::Node;
 use walk::types::Typing;
 
-// Emits the code of the command n.
+// Emits the code of the command n. Expressions need no types, so a struct of the draft and the types would serve this function alone.
 pub(crate) fn command(draft: &Draft, typing: &Typing, n: u16, code: &mut Emitter<'_>)
     requires { CmdReady (entries_of draft.now) n code.old.next }
     ensures { Emitted code.old (cmd_code (types_of typing.now) code.old.next (cmd_at (entries_of draft.now) n)) code.new }

@@ -7,6 +7,7 @@ use aida::instructions::{Coded, Instruction};
 use code::table::CodeEntry;
 
 // Instructions come one after another. Past the end of the table they are counted and not written.
+// No call allocates: the caller lends the table, and the count stands beside it.
 #[derive(Drop)]
 pub(crate) struct Emitter<'a> {
     pub(crate) table: &'a mut [CodeEntry],
@@ -25,7 +26,7 @@ impl Emitter<'_> {
         }
     }
 
-    // Writes the next instruction.
+    // Writes the next instruction. Each caller has the two parts, so a `Coded` would be longer at each call.
     pub(crate) fn emit(&mut self, node: u16, instruction: Instruction)
         requires { self.old.next < 2048 }
         ensures { Emitted self.old (coded node instruction ∷ []) self.new }

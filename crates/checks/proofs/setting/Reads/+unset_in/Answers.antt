@@ -21,17 +21,17 @@ has-requires t c = var_fact _ c.args.self.now.draft.now.formed _ c.requires.belo
 
 pub unset_in-requires : goal.unset_in-requires
 unset_in-requires t c =
-    let f = uny_fact (entries_of c.args.self.now.draft.now) c.args.self.now.draft.now.formed c.args.n c.requires.below c.in-Uny.ensures in
+    let f = uny_fact _ c.args.self.now.draft.now.formed _ c.requires.below c.in-Uny.ensures in
     (omega (arith, c.decreases, f.0), part c.requires f.0 f.1)
 
 pub unset_in-requires-in-Bin : goal.unset_in-requires-in-Bin
 unset_in-requires-in-Bin t c =
-    let f = bin_fact (entries_of c.args.self.now.draft.now) c.args.self.now.draft.now.formed c.args.n c.requires.below c.in-Bin.ensures in
+    let f = bin_fact _ c.args.self.now.draft.now.formed _ c.requires.below c.in-Bin.ensures in
     (omega (arith, c.decreases, f.0), part c.requires f.0 f.1)
 
 pub unset_in-requires-in-Bin-2 : goal.unset_in-requires-in-Bin-2
 unset_in-requires-in-Bin-2 t c =
-    let f = bin_fact (entries_of c.args.self.now.draft.now) c.args.self.now.draft.now.formed c.args.n c.requires.below c.in-Bin.ensures in
+    let f = bin_fact _ c.args.self.now.draft.now.formed _ c.requires.below c.in-Bin.ensures in
     (omega (arith, c.decreases, f.2), part c.requires f.2 f.3)
 
 pub returns-then-has : goal.returns-then-has

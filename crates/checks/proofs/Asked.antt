@@ -1,11 +1,13 @@
 -- What the passes ask is what the rules choose. Assumes nothing.
-use Rattle.std.proofs.Common.{◌≡◌, ℕ, ◌<◌, ◌≤◌, Bool, true, not, ltb, List, length, get_or, Some, None, Ok, Err, Option, sym, refl, ap, ◌∙◌, ap₂, arith}
+use Rattle.std.proofs.Common.{◌≡◌, ℕ, ◌+◌, ◌<◌, ◌≤◌, Bool, true, false, not, ltb, List, length, get_or, replicate, Some, None, Ok, Err, Option, sym, refl, ap, ◌∙◌, ap₂, zero-add, arith}
+use Rattle.std.specs.List.{position_from}
+use Rattle.std.proofs.lemmas.List.{get_or-replicate, length-replicate, get_or_past}
 use Rattle.tosca.specs.declared.operators.SimpleType.{SimpleType}
 use Rattle.tosca.specs.declared.table.Entry.{Entry}
 use Rattle.tosca.specs.declared.table.Node.{Node}
-use Rattle.tosca.specs.declared.table.Node.TheVariants.{Decl, Const, Var, Uny, Bin, Skip, Assign, Seq, Choice, Loop, Input, Output, Program}
+use Rattle.tosca.specs.declared.table.Node.TheVariants.{Const, Var, Uny, Bin, Skip, Assign, Seq, Choice, Loop, Input, Output}
 use Rattle.tosca.specs.Table.{blank, node}
-use Rattle.tosca.specs.Opens.{sort, is_expr}
+use Rattle.tosca.specs.Opens.{Sort, is_expr, sort}
 use Rattle.tosca.specs.Trees.{Expr, Cmd}
 use Rattle.tosca.specs.Trees as tree
 use Rattle.tosca.specs.Decode.{expr_of, expr_at, cmd_of, cmd_at, program_of}
@@ -20,11 +22,11 @@ use Rattle.statics.specs.Temporaries.{need}
 use Rattle.statics.specs.Checking.{is_too_large, no_cmd, faults}
 use Rattle.statics.specs.Scanning.{first_of, chooses_as, chooses}
 use Rattle.statics.proofs.Scanned.{scanned}
-use Rattle.walk.specs.Walking.{IsExpr, filled_by, filled}
-use Rattle.walk.proofs.Filling.{filled_expr, expr_within}
+use Rattle.walk.specs.Walking.{IsExpr, if_expr, answer_at, filled_by, filled}
+use Rattle.walk.proofs.Filling.{length_filled, filled_get_d, filled_expr, expr_within}
 use Rattle.walk.proofs.Meanings.{verdicts_filled}
-use Rattle.checks.specs.Asking.{is_wrong, differ, names_undeclared, is_ill_typed, needs_too_many, of_node}
-use Rattle.checks.proofs.Firsts.{first_same}
+use Rattle.checks.specs.Asking.{is_wrong, differ, names_undeclared, is_ill_typed, of_node}
+use Rattle.checks.proofs.Firsts.{first_same, first_scanned, first_past}
 
 -- the first node that a test finds is the lowest chosen, where the test says what the choice says
 first_chosen : (t : List Entry) (f : Expr ℕ → Bool) (g : Cmd ℕ → Bool) (h : ℕ → Bool) → ((k : ℕ) → k < length t → chooses f g t k ≡ h k) → first_of h 0 (length t) ≡ first_of (chooses f g t) 0 (length t)
@@ -40,7 +42,6 @@ module _ (ds : List (tree.Decl ℕ)) (ty : ℕ → Option SimpleType) (same : (x
       by None = refl
 
   names_at : (t : List Entry) (k : ℕ) (o : Option Node) → expr_at t k ≡ expr_of k (expr_at t) o → cmd_at t k ≡ cmd_of k (expr_at t) (cmd_at t) o → chooses_as (undeclared_var ds) (undeclared_target ds) t k (sort o) ≡ of_node (names_undeclared (λ x. variable_verdict (ty x))) o
-  names_at t k (Some (Decl x y)) e c = refl
   names_at t k (Some (Const v)) e c = ap (undeclared_var ds) e
   names_at t k (Some (Var x)) e c = ap (undeclared_var ds) e ∙ lacks_same x
   names_at t k (Some (Uny o a)) e c = ap (undeclared_var ds) e
@@ -52,8 +53,7 @@ module _ (ds : List (tree.Decl ℕ)) (ty : ℕ → Option SimpleType) (same : (x
   names_at t k (Some (Loop a b)) e c = ap (undeclared_target ds) c
   names_at t k (Some (Input x)) e c = ap (undeclared_target ds) c ∙ lacks_same x
   names_at t k (Some (Output a)) e c = ap (undeclared_target ds) c
-  names_at t k (Some (Program a)) e c = refl
-  names_at t k None e c = refl
+  names_at t k _ e c = refl
 
 pub declared_asked : (t : List Entry) (formed : is_formed t ≡ true) (ty : ℕ → Option SimpleType) → ((x : ℕ) → ty x ≡ type_in (program_of t).decls x) → {r : Option ℕ} → r ≡ first_of (λ n. of_node (names_undeclared (λ x. variable_verdict (ty x))) (node (get_or t n blank))) 0 (length t) → r ≡ lowest (faults Declared (program_of t))
 declared_asked t formed ty same {r} h =
@@ -70,7 +70,6 @@ mismatch_same None v = refl
 module _ (t : List Entry) (formed : is_formed t ≡ true) (ds : List (tree.Decl ℕ)) (ty : ℕ → Option SimpleType) (same : (x : ℕ) → ty x ≡ type_in ds x)
     (on : ℕ → Verdict) (told : (k : ℕ) → IsExpr t k → on k ≡ verdict ds (expr_at t k)) (k : ℕ) (below : k < length t) where
   types_at : (o : Option Node) → node (get_or t k blank) ≡ o → chooses_as (λ e. is_at_fault (verdict ds e)) (ill_typed ds) t k (sort o) ≡ of_node (is_ill_typed (λ x. variable_verdict (ty x)) on k) o
-  types_at (Some (Decl x y)) e = refl
   types_at (Some (Const v)) e = ap is_at_fault (sym (told k (ap sort e)))
   types_at (Some (Var x)) e = ap is_at_fault (sym (told k (ap sort e)))
   types_at (Some (Uny o a)) e = ap is_at_fault (sym (told k (ap sort e)))
@@ -84,8 +83,7 @@ module _ (t : List Entry) (formed : is_formed t ≡ true) (ds : List (tree.Decl 
   types_at (Some (Loop a b)) e = ap (ill_typed ds) (cmd_at_loop t formed k below e) ∙ ap is_no_test (sym (told a (loop_fact t formed k below e).1))
   types_at (Some (Input x)) e = ap (ill_typed ds) (cmd_step t k ∙ ap (cmd_of k (expr_at t) (cmd_at t)) e)
   types_at (Some (Output a)) e = ap (ill_typed ds) (cmd_step t k ∙ ap (cmd_of k (expr_at t) (cmd_at t)) e)
-  types_at (Some (Program a)) e = refl
-  types_at None e = refl
+  types_at _ e = refl
 
 pub typed_asked : (t : List Entry) (formed : is_formed t ≡ true) (ty : ℕ → Option SimpleType) → ((x : ℕ) → ty x ≡ type_in (program_of t).decls x) → (on xs : List Verdict) → on ≡ filled (typing ty) t 0 xs → length t ≤ length xs → {r : Option ℕ} → r ≡ first_of (λ n. of_node (is_ill_typed (λ x. variable_verdict (ty x)) (λ k. get_or on k (Err Wrong)) n) (node (get_or t n blank))) 0 (length t) → r ≡ lowest (faults Typed (program_of t))
 typed_asked t formed ty same on xs is room {r} h =
@@ -96,24 +94,25 @@ typed_asked t formed ty same on xs is room {r} h =
     ∙ sym (scanned (λ e. is_at_fault (verdict ds e)) (ill_typed ds) t formed)
 
 -- temporaries
-needs_at : (t : List Entry) (on : ℕ → ℕ) (k : ℕ) (o : Option Node) → (sort o ≡ is_expr → on k ≡ need (expr_at t k)) → chooses_as is_too_large no_cmd t k (sort o) ≡ of_node (needs_too_many on k) o
-needs_at t on k (Some (Decl x y)) h = refl
-needs_at t on k (Some (Const v)) h = ap (ltb 32) (sym (h refl))
-needs_at t on k (Some (Var x)) h = ap (ltb 32) (sym (h refl))
-needs_at t on k (Some (Uny o a)) h = ap (ltb 32) (sym (h refl))
-needs_at t on k (Some (Bin a o b)) h = ap (ltb 32) (sym (h refl))
-needs_at t on k (Some Skip) h = refl
-needs_at t on k (Some (Assign x a)) h = refl
-needs_at t on k (Some (Seq a b)) h = refl
-needs_at t on k (Some (Choice a b c)) h = refl
-needs_at t on k (Some (Loop a b)) h = refl
-needs_at t on k (Some (Input x)) h = refl
-needs_at t on k (Some (Output a)) h = refl
-needs_at t on k (Some (Program a)) h = refl
-needs_at t on k None h = refl
+needs_at : (t : List Entry) (k : ℕ) (s : Sort) → ltb 32 (if_expr s (need (expr_at t k)) 0) ≡ chooses_as is_too_large no_cmd t k s
+needs_at t k is_expr = refl
+needs_at t k _ = refl
 
-pub temporaries_asked : (t : List Entry) (formed : is_formed t ≡ true) (on xs : List ℕ) → on ≡ filled_by need t 0 xs → length t ≤ length xs → {r : Option ℕ} → r ≡ first_of (λ n. of_node (needs_too_many (λ k. get_or on k 0) n) (node (get_or t n blank))) 0 (length t) → r ≡ lowest (faults Temporaries (program_of t))
-temporaries_asked t formed on xs is room {r} h =
-    h ∙ first_chosen t is_too_large no_cmd (λ n. of_node (needs_too_many (λ k. get_or on k 0) n) (node (get_or t n blank)))
-    (λ k lt. needs_at t (λ j. get_or on j 0) k (node (get_or t k blank)) (λ ex. ap (λ (ys : List ℕ). get_or ys k 0) is ∙ filled_expr need t xs k 0 (omega arith) ex))
+none_past : (t : List Entry) (k : ℕ) → length t ≤ k → chooses is_too_large no_cmd t k ≡ false
+none_past t k h = ap (λ (e : Entry). chooses_as is_too_large no_cmd t k (sort (node e))) (get_or_past t k blank h)
+
+pub temporaries_asked : (t : List Entry) (formed : is_formed t ≡ true) (on : List ℕ) → on ≡ filled_by need t 0 (replicate 1024 0) → length t ≤ 1024 → position_from (ltb 32) 0 on ≡ lowest (faults Temporaries (program_of t))
+temporaries_asked t formed on is few =
+    let long : length on ≡ 1024 = ap length is ∙ length_filled need t 0 (replicate 1024 0) ∙ length-replicate {A = ℕ} 1024 0 in
+    let at : (k : ℕ) → k < length on → ltb 32 (get_or on k 0) ≡ chooses is_too_large no_cmd t (0 + k) =
+    λ k lt.
+    let inside : k < length {A = ℕ} (replicate 1024 0) = omega (arith, length-replicate {A = ℕ} 1024 0) in
+    ap (λ (ys : List ℕ). ltb 32 (get_or ys k 0)) is
+    ∙ ap (ltb 32) (filled_get_d need t (replicate 1024 0) k 0 inside ∙ ap (λ (a : ℕ). answer_at need t k a) (get_or-replicate {A = ℕ} 1024 k 0 0 (omega (arith, long))))
+    ∙ needs_at t k (sort (node (get_or t k blank)))
+    ∙ ap (chooses is_too_large no_cmd t) (sym (zero-add k))
+    in
+    first_scanned (ltb 32) (chooses is_too_large no_cmd t) 0 on 0 at
+    ∙ ap (first_of (chooses is_too_large no_cmd t) 0) long
+    ∙ first_past (chooses is_too_large no_cmd t) 0 (length t) 1024 few (λ k le. none_past t k (omega arith))
     ∙ sym (scanned is_too_large no_cmd t formed)

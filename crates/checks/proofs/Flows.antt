@@ -3,7 +3,7 @@ use Rattle.std.proofs.Common.{◌≡◌, ℕ, ◌^◌, ◌<◌, true, List, ◌+
 use lib.Bits.{bit_and, bit_or}
 use Rattle.tosca.specs.declared.table.Entry.{Entry}
 use Rattle.tosca.specs.declared.table.Node.{Node}
-use Rattle.tosca.specs.declared.table.Node.TheVariants.{Decl, Const, Var, Uny, Bin, Skip, Assign, Seq, Choice, Loop, Input, Output, Program}
+use Rattle.tosca.specs.declared.table.Node.TheVariants.{Assign, Seq, Choice, Loop, Input, Output}
 use Rattle.tosca.specs.Table.{blank, node}
 use Rattle.tosca.specs.Trees.{Cmd}
 use Rattle.tosca.specs.Decode.{expr_at, cmd_of, cmd_at}
@@ -14,13 +14,9 @@ use Rattle.statics.specs.Choosing.{lowest}
 use Rattle.statics.specs.Setting.{Vars, no_vars, in_both, after, unset_in, unset}
 use Rattle.walk.specs.Readings.{holds}
 use Rattle.checks.specs.Lowering.{lower_of}
+use Rattle.checks.specs.Settings.{Comes}
 use Rattle.checks.proofs.Bits.{holds_nothing, holds_with, holds_both}
 use Rattle.checks.proofs.Lower.{lowest_append}
-
--- what a command comes to: the set m after it, and the lowest node f at fault in it
-pub record Comes (c : Cmd ℕ) (s : Vars) (m : ℕ) (f : Option ℕ) : Type 0 where
-  pub set : holds m ≡ after c s
-  pub fault : f ≡ lowest (unset s c)
 
 comes_as : {c d : Cmd ℕ} {s : Vars} {m : ℕ} {f : Option ℕ} → d ≡ c → Comes c s m f → Comes d s m f
 comes_as {c} {d} {s} {m} {f} e h = record { set = h.set ∙ ap (λ (k : Cmd ℕ). after k s) (sym e); fault = h.fault ∙ ap (λ (k : Cmd ℕ). lowest (unset s k)) (sym e) }
@@ -60,32 +56,28 @@ module _ (t : List Entry) (formed : is_formed t ≡ true) (n : ℕ) (below : n <
         fault = k ∙ ap₂ lower_of test u.fault ∙ sym (lowest_append (unset_in s (expr_at t a)) (unset s (cmd_at t d)));
       })
 
-  pub input_comes : {x : ℕ} {m : ℕ} → node (get_or t n blank) ≡ Some (Input x) → m ≡ bit_or b (2 ^ x) → Comes (cmd_at t n) (holds b) m None
+  pub input_comes : {x m : ℕ} {f : Option ℕ} → node (get_or t n blank) ≡ Some (Input x) → m ≡ bit_or b (2 ^ x) → f ≡ None → Comes (cmd_at t n) (holds b) m f
   unfolding after unset
-  input_comes {x} {m} e h = comes_as (cmd_at_input t formed n below e) (record { set = ap holds h ∙ holds_with b x; fault = refl })
+  input_comes {x} {m} {f} e h k = comes_as (cmd_at_input t formed n below e) (record { set = ap holds h ∙ holds_with b x; fault = k })
 
-  pub output_comes : {a : ℕ} {f : Option ℕ} → node (get_or t n blank) ≡ Some (Output a) → f ≡ lowest (unset_in (holds b) (expr_at t a)) → Comes (cmd_at t n) (holds b) b f
+  pub output_comes : {a m : ℕ} {f : Option ℕ} → node (get_or t n blank) ≡ Some (Output a) → m ≡ b → f ≡ lowest (unset_in (holds b) (expr_at t a)) → Comes (cmd_at t n) (holds b) m f
   unfolding after unset
-  output_comes {a} {f} e k = comes_as (cmd_at_output t formed n below e) (record { set = refl; fault = k })
+  output_comes {a} {m} {f} e h k = comes_as (cmd_at_output t formed n below e) (record { set = ap holds h; fault = k })
 
   nothing_comes : (m : Node) → ((x a : ℕ) → m ≡ Assign x a → ⊥) → ((a d : ℕ) → m ≡ Seq a d → ⊥) → ((a c d : ℕ) → m ≡ Choice a c d → ⊥) → ((a d : ℕ) → m ≡ Loop a d → ⊥) → ((x : ℕ) → m ≡ Input x → ⊥) → ((a : ℕ) → m ≡ Output a → ⊥) → Comes (cmd_of n (expr_at t) (cmd_at t) (Some m)) (holds b) b None
   unfolding after unset
-  nothing_comes (Decl x y) v w q l i o = record { set = refl; fault = refl }
-  nothing_comes (Const c) v w q l i o = record { set = refl; fault = refl }
-  nothing_comes (Var x) v w q l i o = record { set = refl; fault = refl }
-  nothing_comes (Uny u a) v w q l i o = record { set = refl; fault = refl }
-  nothing_comes (Bin a u c) v w q l i o = record { set = refl; fault = refl }
-  nothing_comes Skip v w q l i o = record { set = refl; fault = refl }
   nothing_comes (Assign x a) v w q l i o = absurd (v x a refl)
   nothing_comes (Seq a c) v w q l i o = absurd (w a c refl)
   nothing_comes (Choice a c d) v w q l i o = absurd (q a c d refl)
   nothing_comes (Loop a c) v w q l i o = absurd (l a c refl)
   nothing_comes (Input x) v w q l i o = absurd (i x refl)
   nothing_comes (Output a) v w q l i o = absurd (o a refl)
-  nothing_comes (Program a) v w q l i o = record { set = refl; fault = refl }
+  nothing_comes _ v w q l i o = record { set = refl; fault = refl }
 
-  pub other_comes : (m : Node) → node (get_or t n blank) ≡ Some m → ((x a : ℕ) → m ≡ Assign x a → ⊥) → ((a d : ℕ) → m ≡ Seq a d → ⊥) → ((a c d : ℕ) → m ≡ Choice a c d → ⊥) → ((a d : ℕ) → m ≡ Loop a d → ⊥) → ((x : ℕ) → m ≡ Input x → ⊥) → ((a : ℕ) → m ≡ Output a → ⊥) → Comes (cmd_at t n) (holds b) b None
-  other_comes m e v w q l i o = comes_as (cmd_step t n ∙ ap (cmd_of n (expr_at t) (cmd_at t)) e) (nothing_comes m v w q l i o)
+  pub other_comes : (m : Node) → node (get_or t n blank) ≡ Some m → ((x a : ℕ) → m ≡ Assign x a → ⊥) → ((a d : ℕ) → m ≡ Seq a d → ⊥) → ((a c d : ℕ) → m ≡ Choice a c d → ⊥) → ((a d : ℕ) → m ≡ Loop a d → ⊥) → ((x : ℕ) → m ≡ Input x → ⊥) → ((a : ℕ) → m ≡ Output a → ⊥) → {k : ℕ} {f : Option ℕ} → k ≡ b → f ≡ None → Comes (cmd_at t n) (holds b) k f
+  other_comes m e v w q l i o {k} {f} h none =
+      let r = nothing_comes m v w q l i o in
+      comes_as (cmd_step t n ∙ ap (cmd_of n (expr_at t) (cmd_at t)) e) (record { set = ap holds h ∙ r.set; fault = none ∙ r.fault })
 
 -- the routine begins with no variable set
 pub body_comes : {p c : Cmd ℕ} {b : ℕ} {f : Option ℕ} → p ≡ c → b ≡ 0 → f ≡ lowest (unset (holds b) c) → f ≡ lowest (unset no_vars p)

@@ -6,3 +6,4 @@ pub mod Repeats
 pub mod Unset
 pub mod Flows
 pub mod Asked
+pub mod Rules

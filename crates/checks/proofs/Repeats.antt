@@ -6,7 +6,7 @@ use Rattle.std.proofs.lemmas.Bool.{eq-eqb, ne_eqb, cases_eq, cond-true, cond-fal
 use Rattle.tosca.specs.declared.operators.SimpleType.{SimpleType}
 use Rattle.tosca.specs.declared.table.Entry.{Entry}
 use Rattle.tosca.specs.declared.table.Node.{Node}
-use Rattle.tosca.specs.declared.table.Node.TheVariants.{Decl, Const, Var, Uny, Bin, Skip, Assign, Seq, Choice, Loop, Input, Output, Program}
+use Rattle.tosca.specs.declared.table.Node.TheVariants.{Decl}
 use Rattle.tosca.specs.Table.{blank, node}
 use Rattle.tosca.specs.Trees as tree
 use Rattle.tosca.specs.Decode.{declared, decls_from, program_of}
@@ -66,18 +66,7 @@ module _ (t : List Entry) (bits n : ℕ) (below : n < length t) where
 
   skips : (m : Node) (ds : List (tree.Decl ℕ)) → ((x : ℕ) (y : SimpleType) → m ≡ Decl x y → ⊥) → declared n (Some m) ds ≡ ds
   skips (Decl x y) ds h = absurd (h x y refl)
-  skips (Const v) ds h = refl
-  skips (Var x) ds h = refl
-  skips (Uny o a) ds h = refl
-  skips (Bin a o b) ds h = refl
-  skips Skip ds h = refl
-  skips (Assign x a) ds h = refl
-  skips (Seq a b) ds h = refl
-  skips (Choice a b c) ds h = refl
-  skips (Loop a b) ds h = refl
-  skips (Input x) ds h = refl
-  skips (Output a) ds h = refl
-  skips (Program a) ds h = refl
+  skips _ ds h = refl
 
   pub left_other : (m : Node) → node (get_or t n blank) ≡ Some m → ((x : ℕ) (y : SimpleType) → m ≡ Decl x y → ⊥) → Left t bits n ≡ Left t bits (n + 1)
   left_other m e h =

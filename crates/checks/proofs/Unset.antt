@@ -6,7 +6,7 @@ use Rattle.tosca.specs.declared.operators.Unary.{Unary}
 use Rattle.tosca.specs.declared.operators.Binary.{Binary}
 use Rattle.tosca.specs.declared.table.Entry.{Entry}
 use Rattle.tosca.specs.declared.table.Node.{Node}
-use Rattle.tosca.specs.declared.table.Node.TheVariants.{Decl, Const, Var, Uny, Bin, Skip, Assign, Seq, Choice, Loop, Input, Output, Program}
+use Rattle.tosca.specs.declared.table.Node.TheVariants.{Var, Uny, Bin}
 use Rattle.tosca.specs.Table.{blank, node}
 use Rattle.tosca.specs.Opens.{Sort, sort}
 use Rattle.tosca.specs.Trees.{Expr, const, var, uny, bin}
@@ -17,15 +17,15 @@ use Rattle.draft.specs.Subtrees.{InExpr}
 use Rattle.draft.proofs.Facts.{expr_at_var, expr_at_uny, expr_at_bin}
 use Rattle.statics.specs.Choosing.{lowest, picked, chosen_in}
 use Rattle.statics.specs.Setting.{Vars, unset_in}
-use Rattle.walk.specs.Readings.{holds, SetRead}
+use Rattle.walk.specs.Readings.{holds, Reads}
 use Rattle.walk.proofs.Sets.{holds_or}
 use Rattle.checks.specs.Lowering.{lower_of}
-use Rattle.checks.specs.Settings.{Ready}
+use Rattle.checks.specs.Settings.{IsNode}
 use Rattle.checks.proofs.Lower.{lowest_append}
 
--- what is known at a part
-pub ready_part : {t : List Entry} {reads : List ℕ} {n : ℕ} {s : Sort} → Ready t reads n s → (a : ℕ) (w : Sort) → a < n → sort (node (get_or t a blank)) ≡ w → Ready t reads a w
-ready_part r a w lt e = record { room = r.room; read = r.read; below = omega (arith, r.below, lt); is = e }
+-- a part of a node
+pub part : {t : List Entry} {n a : ℕ} {s w : Sort} → IsNode t n s → a < n → sort (node (get_or t a blank)) ≡ w → IsNode t a w
+part r lt e = record { below = omega (arith, r.below, lt); is = e }
 
 -- none is outside a set that has them all
 none_outside : (s : Vars) (e : Expr ℕ) → ((n x : ℕ) → InExpr (var n x) e → s x ≡ true) → unset_in s e ≡ []
@@ -38,8 +38,8 @@ none_outside s (bin n a o b) h = ap₂ (λ (xs ys : List ℕ). xs ++ (ys ++ []))
 covers : (r s : ℕ) → true ≡ eqb (bit_or r s) s → (x : ℕ) → holds r x ≡ true → holds s x ≡ true
 covers r s e x h = ap (λ (m : ℕ). holds m x) (sym (eqb-true (bit_or r s) s (sym e))) ∙ holds_or r s x ∙ or_left (holds r x) (holds s x) h
 
-pub unset_covered : (r s : ℕ) (e : Expr ℕ) → SetRead r e → true ≡ eqb (bit_or r s) s → None ≡ lowest (unset_in (holds s) e)
-unset_covered r s e read h = sym (ap lowest (none_outside (holds s) e (λ n x i. covers r s h x (read.all x (n, i)))))
+pub unset_covered : (r s : ℕ) (e : Expr ℕ) → ((x : ℕ) → Reads e x → holds r x ≡ true) → true ≡ eqb (bit_or r s) s → None ≡ lowest (unset_in (holds s) e)
+unset_covered r s e read h = sym (ap lowest (none_outside (holds s) e (λ n x i. covers r s h x (read x (n, i)))))
 
 -- the node n of a formed table
 module _ (t : List Entry) (formed : is_formed t ≡ true) (n : ℕ) (below : n < length t) (s : Vars) where
@@ -65,19 +65,10 @@ module _ (t : List Entry) (formed : is_formed t ≡ true) (n : ℕ) (below : n <
 
   none_at : (m : Node) → ((x : ℕ) → m ≡ Var x → ⊥) → ((o : Unary) (a : ℕ) → m ≡ Uny o a → ⊥) → ((a : ℕ) (o : Binary) (b : ℕ) → m ≡ Bin a o b → ⊥) → lowest (unset_in s (expr_of n (expr_at t) (Some m))) ≡ None
   unfolding chosen_in
-  none_at (Decl x y) v u b = refl
-  none_at (Const c) v u b = refl
   none_at (Var x) v u b = absurd (v x refl)
   none_at (Uny o a) v u b = absurd (u o a refl)
   none_at (Bin a o c) v u b = absurd (b a o c refl)
-  none_at Skip v u b = refl
-  none_at (Assign x a) v u b = refl
-  none_at (Seq a c) v u b = refl
-  none_at (Choice a c d) v u b = refl
-  none_at (Loop a c) v u b = refl
-  none_at (Input x) v u b = refl
-  none_at (Output a) v u b = refl
-  none_at (Program a) v u b = refl
+  none_at _ v u b = refl
 
   pub other_unset : (m : Node) → node (get_or t n blank) ≡ Some m → ((x : ℕ) → m ≡ Var x → ⊥) → ((o : Unary) (a : ℕ) → m ≡ Uny o a → ⊥) → ((a : ℕ) (o : Binary) (b : ℕ) → m ≡ Bin a o b → ⊥) → None ≡ lowest (unset_in s (expr_at t n))
   other_unset m e v u b = sym (ap (λ (d : Expr ℕ). lowest (unset_in s d)) (expr_step t n ∙ ap (expr_of n (expr_at t)) e) ∙ none_at m v u b)

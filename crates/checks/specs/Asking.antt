@@ -1,5 +1,5 @@
 -- What a pass asks of one entry, from answers that were worked out before it.
-use Rattle.std.specs.Prelude.{ℕ, Bool, true, false, not, Some, None, Ok, Err, Option, nat_lt}
+use Rattle.std.specs.Prelude.{ℕ, Bool, true, false, not, Some, None, Ok, Err, Option}
 use Rattle.tosca.specs.declared.table.Node.{Node}
 use Rattle.tosca.specs.declared.table.Node.TheVariants.{Decl, Const, Var, Uny, Bin, Skip, Assign, Seq, Choice, Loop, Input, Output, Program}
 use Rattle.statics.specs.declared.verdict.TypeError.TheVariants.{Wrong, AtFault}
@@ -48,22 +48,6 @@ is_ill_typed variable on n (Seq a b) = false
 is_ill_typed variable on n (Input x) = false
 is_ill_typed variable on n (Output a) = false
 is_ill_typed variable on n (Program a) = false
-
--- the node n is an expression that needs more than 32 temporaries
-abbrev pub needs_too_many : (ℕ → ℕ) → ℕ → Node → Bool
-needs_too_many on n (Const v) = nat_lt 32 (on n)
-needs_too_many on n (Var x) = nat_lt 32 (on n)
-needs_too_many on n (Uny o a) = nat_lt 32 (on n)
-needs_too_many on n (Bin a o b) = nat_lt 32 (on n)
-needs_too_many on n (Decl x y) = false
-needs_too_many on n Skip = false
-needs_too_many on n (Assign x a) = false
-needs_too_many on n (Seq a b) = false
-needs_too_many on n (Choice a b c) = false
-needs_too_many on n (Loop a b) = false
-needs_too_many on n (Input x) = false
-needs_too_many on n (Output a) = false
-needs_too_many on n (Program a) = false
 
 -- the same of an entry, which may be no node
 abbrev pub of_node : (Node → Bool) → Option Node → Bool

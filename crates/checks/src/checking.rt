@@ -5,7 +5,6 @@ ghost use Rattle.statics.specs.declared.rules.Rule.TheVariants.{DeclaredOnce, De
 ghost use Rattle.statics.specs.Choosing.{lowest};
 ghost use Rattle.statics.specs.Checking.{asked, faults, first_no, checking as checking_of};
 ghost use Rattle.statics.specs.StaticLaws.{Judged};
-ghost use Rattle.checks.specs.Passing.{is_passed};
 ghost use Rattle.checks.specs.Outcomes.{outcome_of, Kept};
 
 use crate::declarations::{repeated_name, undeclared_name};
@@ -15,6 +14,15 @@ use crate::temporaries::too_large;
 use crate::typing::ill_typed;
 use draft::draft::Draft;
 use statics::rules::{Rule, Violation};
+
+// The rules in their order.
+const RULES: [Rule; 5] = [
+    Rule::DeclaredOnce,
+    Rule::Declared,
+    Rule::Typed,
+    Rule::Set,
+    Rule::Temporaries,
+];
 
 // The lowest node at fault for a rule.
 fn fault(draft: &Draft, rule: Rule) -> Option<u16>
@@ -32,21 +40,16 @@ fn fault(draft: &Draft, rule: Rule) -> Option<u16>
 fn ask(draft: &Draft, rule: Rule) -> Result<(), Violation>
     ensures { result ≡ asked rule (lowest (faults rule (tree_of draft.now))) (Ok tt) }
 {
-    match fault(draft, rule) {
-        Some(node) => Err(Violation { rule, node }),
-        None => Ok(()),
-    }
+    fault(draft, rule).map_or(Ok(()), |node| Err(Violation { rule, node }))
 }
 
-// The rules in their order.
 fn ask_all(draft: &Draft) -> Result<(), Violation>
     ensures { result ≡ first_no (DeclaredOnce ∷ Declared ∷ Typed ∷ Set ∷ Temporaries ∷ []) (tree_of draft.now) }
 {
-    ask(draft, Rule::DeclaredOnce)?;
-    ask(draft, Rule::Declared)?;
-    ask(draft, Rule::Typed)?;
-    ask(draft, Rule::Set)?;
-    ask(draft, Rule::Temporaries)
+    for rule in RULES {
+        ask(draft, rule)?;
+    }
+    Ok(())
 }
 
 // Asks a draft the static rules: yes, or the first rule that is broken and the lowest node at fault.
@@ -57,13 +60,6 @@ pub fn check(draft: &Draft) -> Result<(), Violation>
     ask_all(draft)
 }
 
-fn make(draft: Draft) -> Checked
-    requires { is_passed (tree_of draft) ≡ true }
-    ensures { result.draft ≡ draft }
-{
-    Checked { draft }
-}
-
 // Takes a draft that passes; one that does not comes back as it was, with the violation.
 pub fn pass(draft: Draft) -> Result<Checked, (Draft, Violation)>
     ensures is { outcome_of result ≡ checking_of (tree_of draft) }
@@ -71,7 +67,7 @@ pub fn pass(draft: Draft) -> Result<Checked, (Draft, Violation)>
     ensures judged { Judged (tree_of draft) (outcome_of result) }
 {
     match check(&draft) {
-        Ok(()) => Ok(make(draft)),
+        Ok(()) => Ok(Checked { draft }),
         Err(violation) => Err((draft, violation)),
     }
 }

@@ -9,12 +9,12 @@ ghost use Rattle.statics.specs.Checking.{faults};
 ghost use Rattle.walk.specs.Readings.{types_of};
 ghost use Rattle.checks.specs.Asking.{is_wrong, names_undeclared, of_node};
 
-use crate::names::Names;
 use crate::nodes::{count, node_at};
 use crate::passes::{Test, first_fault};
 use draft::draft::Draft;
 use statics::verdict::TypeError;
 use tosca::table::Node;
+use walk::names::Names;
 use walk::reading::Reading;
 use walk::types::Typing;
 

@@ -4,7 +4,6 @@
 pub mod checking;
 mod declarations;
 mod lowering;
-mod names;
 pub mod nodes;
 mod passes;
 mod setting;

@@ -7,7 +7,6 @@ pub(crate) fn lower(a: Option<u16>, b: Option<u16>) -> Option<u16>
 {
     match (a, b) {
         (Some(a), Some(b)) => Some(a.min(b)),
-        (Some(a), None) => Some(a),
-        (None, b) => b,
+        _ => a.or(b),
     }
 }

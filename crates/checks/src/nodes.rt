@@ -20,10 +20,7 @@ pub fn node_at(draft: &Draft, n: u16) -> Node
     requires { n < length (entries_of draft.now) }
     ensures { node (slice_index_or (entries_of draft.now) n blank) ≡ Some result }
 {
-    match draft.entries()[n as usize].node() {
-        Some(node) => node,
-        None => unreachable(),
-    }
+    draft.entries()[n as usize].node().unwrap()
 }
 
 // The number of the routine's command.

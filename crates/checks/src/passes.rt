@@ -21,10 +21,5 @@ pub(crate) trait Test {
 pub(crate) fn first_fault<T: Test>(test: &T, draft: &Draft) -> Option<u16>
     ensures { result ≡ first_of (T.faulty test.now (entries_of draft.now)) 0 (length (entries_of draft.now)) }
 {
-    for n in 0..count(draft) {
-        if test.is_at_fault(draft, n) {
-            return Some(n);
-        }
-    }
-    None
+    (0..count(draft)).find(|n| test.is_at_fault(draft, *n))
 }

@@ -16,14 +16,14 @@ use Rattle.aida.specs.declared.instructions.Instruction.TheVariants.{LoadConst, 
 use Rattle.aida.specs.Templates.{coded, expr_length, expr_code}
 use Rattle.aida.specs.Values.{number}
 use Rattle.aida.proofs.Codes.{length_expr_code}
-use Rattle.code.specs.declared.table.CodeEntry.{CodeEntry}
 use Rattle.agreement.specs.Premises.{ExprNames}
+use Rattle.translator.specs.declared.emitter.Emitter.{Emitter}
 use Rattle.translator.specs.Emitting.{Emitted, ExprReady}
 use Rattle.translator.proofs.Stores.{joined, as_code}
 
-module _ (t : List Entry) (formed : is_formed t ≡ true) {n c p : ℕ} (r : ExprReady t n c p) where
-  long : {e : Expr ℕ} → expr_at t n ≡ e → p + expr_length e ≤ 2048
-  long is = subst (λ (e : Expr ℕ). p + expr_length e ≤ 2048) is r.short
+module _ (t : List Entry) (formed : is_formed t ≡ true) (w : Emitter) {n c : ℕ} (r : ExprReady t n c w.next) where
+  long : {e : Expr ℕ} → expr_at t n ≡ e → w.next + expr_length e ≤ 2048
+  long is = subst (λ (e : Expr ℕ). w.next + expr_length e ≤ 2048) is r.short
 
   high : {e : Expr ℕ} → expr_at t n ≡ e → c + need e ≤ 96
   high is = subst (λ (e : Expr ℕ). c + need e ≤ 96) is r.cells
@@ -31,19 +31,19 @@ module _ (t : List Entry) (formed : is_formed t ≡ true) {n c p : ℕ} (r : Exp
   named : {e : Expr ℕ} → expr_at t n ≡ e → ExprNames e
   named is = subst ExprNames is r.names
 
-  pub const_room : {v : Value} → node (get_or t n blank) ≡ Some (Const v) → p < 2048
+  pub const_room : {v : Value} → node (get_or t n blank) ≡ Some (Const v) → w.next < 2048
   unfolding expr_length
   const_room e = omega (arith, long (expr_at_const t formed n r.below e))
 
-  pub const_done : {v : Value} {z : ℤ} {l m : List CodeEntry} {q : ℕ} → node (get_or t n blank) ≡ Some (Const v) → Emitted l p (coded n (LoadConst z) ∷ []) m q → z ≡ number v → Emitted l p (expr_code c (expr_at t n)) m q
+  pub const_done : {v : Value} {z : ℤ} {w₁ : Emitter} → node (get_or t n blank) ≡ Some (Const v) → Emitted w (coded n (LoadConst z) ∷ []) w₁ → z ≡ number v → Emitted w (expr_code c (expr_at t n)) w₁
   unfolding expr_code
   const_done e h ez = as_code (ap (λ (y : ℤ). coded n (LoadConst y) ∷ []) ez ∙ ap (expr_code c) (sym (expr_at_const t formed n r.below e))) h
 
-  pub var_room : {x : ℕ} → node (get_or t n blank) ≡ Some (Var x) → p < 2048
+  pub var_room : {x : ℕ} → node (get_or t n blank) ≡ Some (Var x) → w.next < 2048
   unfolding expr_length
   var_room e = omega (arith, long (expr_at_var t formed n r.below e))
 
-  pub var_done : {x : ℕ} {l m : List CodeEntry} {q : ℕ} → node (get_or t n blank) ≡ Some (Var x) → Emitted l p (coded n (LoadVar x) ∷ []) m q → Emitted l p (expr_code c (expr_at t n)) m q
+  pub var_done : {x : ℕ} {w₁ : Emitter} → node (get_or t n blank) ≡ Some (Var x) → Emitted w (coded n (LoadVar x) ∷ []) w₁ → Emitted w (expr_code c (expr_at t n)) w₁
   unfolding expr_code
   var_done e h = as_code (ap (expr_code c) (sym (expr_at_var t formed n r.below e))) h
 
@@ -51,17 +51,17 @@ module _ (t : List Entry) (formed : is_formed t ≡ true) {n c p : ℕ} (r : Exp
     is_uny : expr_at t n ≡ uny n o (expr_at t a)
     is_uny = expr_at_uny t formed n r.below e
 
-    pub uny_part : (a < n) × ExprReady t a c p
+    pub uny_part : (a < n) × ExprReady t a c w.next
     unfolding expr_length need
     uny_part =
         let f = uny_fact t formed n r.below e in
         (f.0, record { below = omega (arith, f.0, r.below); is = f.1; names = named is_uny; cells = high is_uny; short = omega (arith, long is_uny) })
 
-    pub uny_room : {l m : List CodeEntry} {q : ℕ} → Emitted l p (expr_code c (expr_at t a)) m q → q < 2048
+    pub uny_room : {w₁ : Emitter} → Emitted w (expr_code c (expr_at t a)) w₁ → w₁.next < 2048
     unfolding expr_length
     uny_room h = omega (arith, h.next, length_expr_code c (expr_at t a), long is_uny)
 
-    pub uny_done : {l m s : List CodeEntry} {q u : ℕ} → Emitted l p (expr_code c (expr_at t a)) m q → Emitted m q (coded n (UnaryOp o) ∷ []) s u → Emitted l p (expr_code c (expr_at t n)) s u
+    pub uny_done : {w₁ w₂ : Emitter} → Emitted w (expr_code c (expr_at t a)) w₁ → Emitted w₁ (coded n (UnaryOp o) ∷ []) w₂ → Emitted w (expr_code c (expr_at t n)) w₂
     unfolding expr_code
     uny_done h k = as_code (ap (expr_code c) (sym is_uny)) (joined h k)
 
@@ -77,7 +77,7 @@ module _ (t : List Entry) (formed : is_formed t ≡ true) {n c p : ℕ} (r : Exp
     unfolding need
     bin_cell = omega (arith, high as_held)
 
-    pub bin_first : (first < n) × ExprReady t first c p
+    pub bin_first : (first < n) × ExprReady t first c w.next
     unfolding expr_length need
     bin_first =
         let f = bin_fact t formed n r.below e in (
@@ -91,12 +91,12 @@ module _ (t : List Entry) (formed : is_formed t ≡ true) {n c p : ℕ} (r : Exp
           },
         )
 
-    pub bin_keep : {l m : List CodeEntry} {q : ℕ} → Emitted l p (expr_code c (expr_at t first)) m q → q < 2048
+    pub bin_keep : {w₁ : Emitter} → Emitted w (expr_code c (expr_at t first)) w₁ → w₁.next < 2048
     unfolding expr_length
     bin_keep h = omega (arith, h.next, length_expr_code c (expr_at t first), long as_held)
 
-    module _ {l m m₁ : List CodeEntry} {q q₁ d : ℕ} (h : Emitted l p (expr_code c (expr_at t first)) m q) (k : Emitted m q (coded n (Store c) ∷ []) m₁ q₁) (is-next : d ≡ suc c) where
-      pub bin_last : (last < n) × ExprReady t last d q₁
+    module _ {w₁ w₂ : Emitter} {d : ℕ} (h : Emitted w (expr_code c (expr_at t first)) w₁) (k : Emitted w₁ (coded n (Store c) ∷ []) w₂) (is-next : d ≡ suc c) where
+      pub bin_last : (last < n) × ExprReady t last d w₂.next
       unfolding expr_length need
       bin_last =
           let f = bin_fact t formed n r.below e in (
@@ -110,13 +110,13 @@ module _ (t : List Entry) (formed : is_formed t ≡ true) {n c p : ℕ} (r : Exp
             },
           )
 
-      module _ {m₂ : List CodeEntry} {q₂ : ℕ} (j : Emitted m₁ q₁ (expr_code d (expr_at t last)) m₂ q₂) where
-        pub bin_room : q₂ < 2048
+      module _ {w₃ : Emitter} (j : Emitted w₂ (expr_code d (expr_at t last)) w₃) where
+        pub bin_room : w₃.next < 2048
         unfolding expr_length
         bin_room = omega (arith, h.next, k.next, j.next, length_expr_code c (expr_at t first), length_expr_code d (expr_at t last), long as_held)
 
-        pub bin_done : {m₃ : List CodeEntry} {q₃ : ℕ} → Emitted m₂ q₂ (coded n (BinaryOp o c) ∷ []) m₃ q₃ → Emitted l p (expr_code c (expr_at t n)) m₃ q₃
+        pub bin_done : {w₄ : Emitter} → Emitted w₃ (coded n (BinaryOp o c) ∷ []) w₄ → Emitted w (expr_code c (expr_at t n)) w₄
         unfolding expr_code
         bin_done i =
-            let left : Emitted m₁ q₁ (expr_code (suc c) (expr_at t last)) m₂ q₂ = as_code (ap (λ (x : ℕ). expr_code x (expr_at t last)) is-next) j in
+            let left : Emitted w₂ (expr_code (suc c) (expr_at t last)) w₃ = as_code (ap (λ (x : ℕ). expr_code x (expr_at t last)) is-next) j in
             as_code (ap (expr_code c) (sym as_held)) (joined h (joined k (joined left i)))

@@ -26,6 +26,7 @@ use Rattle.agreement.specs.Premises.{CmdFits}
 use Rattle.agreement.specs.Passed.{Passed}
 use Rattle.agreement.proofs.Counting.{few_instructions}
 use Rattle.agreement.proofs.Passing.{passed_checked, passed_code}
+use Rattle.translator.specs.declared.emitter.Emitter.{Emitter}
 use Rattle.translator.specs.declared.unfit.Unfit.{Unfit}
 use Rattle.translator.specs.declared.unfit.Unfit.TheVariants.{TooShort}
 use Rattle.translator.specs.Emitting.{Emitted, CmdReady}
@@ -55,7 +56,7 @@ module _ (k : Checked) {d : Draft} (lent : d ≡ k.draft) where
       }
 
   -- the types that the program has gathered are those of the declarations
-  pub code_emitted : (ty : Types) (b : Cmd ℕ) {q : ℕ} {l m : List CodeEntry} → ((x : ℕ) → ty x ≡ type_in (tree_of d).decls x) → (tree_of d).body ≡ b → Emitted l 0 (cmd_code ty 0 b) m q → Emitted l 0 (code (tree_of k.draft)) m q
+  pub code_emitted : (ty : Types) (b : Cmd ℕ) {w w₁ : Emitter} → ((x : ℕ) → ty x ≡ type_in (tree_of d).decls x) → (tree_of d).body ≡ b → Emitted w (cmd_code ty 0 b) w₁ → Emitted w (code (tree_of k.draft)) w₁
   code_emitted ty b et eb h =
       let types : ty ≡ type_in (tree_of d).decls = λ i x. et x i in
       let whole : cmd_code ty 0 b ≡ code (tree_of d) = λ i. cmd_code (types i) 0 (sym eb i) in

@@ -8,14 +8,19 @@ use Rattle.tosca.specs.Opens.{sort, is_expr, is_cmd}
 use Rattle.statics.specs.Temporaries.{need}
 use Rattle.aida.specs.declared.instructions.Coded.{Coded}
 use Rattle.aida.specs.Templates.{expr_length, cmd_length}
-use Rattle.code.specs.declared.table.CodeEntry.{CodeEntry}
 use Rattle.code.specs.CodeTable.{code_entry}
 use Rattle.agreement.specs.Premises.{ExprNames, CmdFits}
+use Rattle.translator.specs.declared.emitter.Emitter.{Emitter}
 
--- the instructions were written from the number p on, as far as there is room, and the next number is q
-pub record Emitted (before : List CodeEntry) (p : ℕ) (is : List Coded) (after : List CodeEntry) (q : ℕ) : Type 0 where
-  pub table : after ≡ sets before p (map code_entry is)
-  pub next : q ≡ p + length is
+-- the instructions were written from a number on, as far as there is room in the lent table, and the next number is so many further
+pub record Stores (before : Emitter) (at : ℕ) (is : List Coded) (further : ℕ) (after : Emitter) : Type 0 where
+  pub table : after.table.now ≡ sets before.table.now at (map code_entry is)
+  pub next : after.next ≡ before.next + further
+  pub lent : after.table.ghost_name ≡ before.table.ghost_name
+
+-- they were written as the next instructions
+abbrev pub Emitted : Emitter → List Coded → Emitter → Type 0
+Emitted before is after = Stores before before.next is (length is) after
 
 -- the node n is an expression; its names, its temporaries from the cell c on, and its code from the number p on are within the limits
 pub record ExprReady (t : List Entry) (n c p : ℕ) : Type 0 where

@@ -15,11 +15,10 @@ use draft::draft::Draft;
 use tosca::table::Node;
 use walk::types::Typing;
 
-// Emits the code of the command n.
+// Emits the code of the command n. Expressions need no types, so a struct of the draft and the types would serve this function alone.
 pub(crate) fn command(draft: &Draft, typing: &Typing, n: u16, code: &mut Emitter<'_>)
     requires { CmdReady (entries_of draft.now) n code.old.next }
-    ensures emits { Emitted code.old.table.now code.old.next (cmd_code (types_of typing.now) code.old.next (cmd_at (entries_of draft.now) n)) code.new.table.now code.new.next }
-    ensures lent { code.new.table.ghost_name ≡ code.old.table.ghost_name }
+    ensures { Emitted code.old (cmd_code (types_of typing.now) code.old.next (cmd_at (entries_of draft.now) n)) code.new }
 {
     match node_at(draft, n) {
         Node::Skip => {}
@@ -33,20 +32,20 @@ pub(crate) fn command(draft: &Draft, typing: &Typing, n: u16, code: &mut Emitter
         }
         Node::Choice(a, b, c) => {
             expression(draft, a, TEMPORARIES, code);
-            let jump = code.reserve();
+            let to_else = code.reserve();
             command(draft, typing, b, code);
-            let goto = code.reserve();
-            code.jump_here(jump, n);
+            let to_end = code.reserve();
+            code.write(to_else, n, Instruction::Jump(code.next));
             command(draft, typing, c, code);
-            code.go_here(goto, n);
+            code.write(to_end, n, Instruction::Goto(code.next));
         }
         Node::Loop(a, b) => {
             let start = code.next;
             expression(draft, a, TEMPORARIES, code);
-            let jump = code.reserve();
+            let out = code.reserve();
             command(draft, typing, b, code);
-            code.go_back(start, n);
-            code.jump_here(jump, n);
+            code.emit(n, Instruction::Goto(start));
+            code.write(out, n, Instruction::Jump(code.next));
         }
         Node::Input(name) => {
             code.emit(n, input_by(typing, name));

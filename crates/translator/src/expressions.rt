@@ -15,8 +15,7 @@ use tosca::table::Node;
 // Emits the code of the expression n, with temporaries from the cell on.
 pub(crate) fn expression(draft: &Draft, n: u16, cell: u16, code: &mut Emitter<'_>)
     requires { ExprReady (entries_of draft.now) n cell code.old.next }
-    ensures emits { Emitted code.old.table.now code.old.next (expr_code cell (expr_at (entries_of draft.now) n)) code.new.table.now code.new.next }
-    ensures lent { code.new.table.ghost_name ≡ code.old.table.ghost_name }
+    ensures { Emitted code.old (expr_code cell (expr_at (entries_of draft.now) n)) code.new }
 {
     match node_at(draft, n) {
         Node::Const(value) => code.emit(n, Instruction::LoadConst(number(value))),

@@ -5,7 +5,7 @@ ghost use Rattle.translator.specs.Refusing.{unfit_number};
 #[derive(Clone, Copy, PartialEq, Debug)]
 pub enum Unfit {
     // the code has more instructions than the table has entries
-    TooShort,
+    TooShort = 31,
 }
 
 impl Unfit {
@@ -13,8 +13,6 @@ impl Unfit {
     pub fn number(self) -> u8
         ensures { result ≡ unfit_number self }
     {
-        match self {
-            Unfit::TooShort => 31,
-        }
+        self as u8
     }
 }

@@ -2,6 +2,7 @@
 #![tactic(auto)]
 
 pub mod declarations;
+pub mod names;
 pub mod reading;
 pub mod temporaries;
 pub mod types;

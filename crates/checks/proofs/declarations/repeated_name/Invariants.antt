@@ -7,4 +7,4 @@ use Rattle.checks.proofs.Repeats.{Left}
 use Rattle.checks.proofs.declarations.repeated_name.Given as goal
 
 abbrev pub invariant-loop-n : goal.invariant-loop-n
-invariant-loop-n l = lowest (again [] (program_of (entries_of l.draft)).decls) ≡ Left (entries_of l.draft) l.seen.bits l.n
+invariant-loop-n l = lowest (again [] (program_of (entries_of l.draft)).decls) ≡ Left (entries_of l.draft) l.seen l.n

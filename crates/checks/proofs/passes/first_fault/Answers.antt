@@ -1,16 +1,13 @@
-use Rattle.std.proofs.Common.{◌<◌, length, sym, ◌∙◌, arith}
+use Rattle.std.proofs.Common.{length, refl, rules, tests}
+use native.Mathlib.Nat.{sub-zero}
+use Rattle.std.proofs.lemmas.Iterator.{YieldsList-from_range}
+use Rattle.std.proofs.lemmas.Iterator.Search.{find_from_yields_List}
 use Rattle.draft.specs.Opening.{entries_of}
-use Rattle.checks.proofs.Firsts.{first_here, first_later}
+use Rattle.checks.proofs.Firsts.{first_found}
 use Rattle.checks.proofs.passes.first_fault.Goals as goal
 
-pub returns-then-is_at_fault : goal.returns-then-is_at_fault
-returns-then-is_at_fault g c =
+pub returns : goal.returns
+returns g c =
     let t = entries_of c.args.draft.now in
-    let below : c.loop-n.n < length t = omega (arith, c.loop-n-test.true, c.count-n-end.ensures) in
-    sym (c.loop-n.invariant ∙ first_here (g.T.Test.faulty c.args.test.now t) (length t) c.loop-n.n below c.if-is_at_fault.ensures)
-
-pub loop-n-preserved : goal.loop-n-preserved
-loop-n-preserved g c =
-    let t = entries_of c.args.draft.now in
-    let below : c.loop-n.n < length t = omega (arith, c.loop-n-test.true, c.count-n-end.ensures) in
-    c.loop-n.invariant ∙ first_later (g.T.Test.faulty c.args.test.now t) (length t) c.loop-n.n below c.if-is_at_fault.ensures
+    first_found (g.T.Test.faulty c.args.test.now t) (length t) c.count.ensures
+    (find_from_yields_List (g.T.Test.faulty c.args.test.now t) _ _ c.find.result c.find.ensures.ran (YieldsList-from_range 0 c.count.result c.count.result refl (sub-zero c.count.result)) (λ x b q k. search (rules, tests)))

@@ -13,5 +13,5 @@ command-requires c =
 pub returns : goal.returns
 returns c =
     let d = c.draft-draft.result.now in
-    let e = code_emitted c.args.routine.now c.draft-draft.ensures (types_of c.of-typing.result) (cmd_at (entries_of d) c.body.result) c.of-typing.ensures c.body.ensures.tree c.command.ensures.emits in
-    record { count = omega (arith, e.next); few = omega (arith, e.next, few_code c.args.routine.now.draft); table = search (rules, e.table, c.command.ensures.lent) }
+    let e = code_emitted c.args.routine.now c.draft-draft.ensures (types_of c.of-typing.result) (cmd_at (entries_of d) c.body.result) c.of-typing.ensures c.body.ensures.tree c.command.ensures in
+    record { count = omega (arith, e.next); few = omega (arith, e.next, few_code c.args.routine.now.draft); table = search (rules, e.table, e.lent) }

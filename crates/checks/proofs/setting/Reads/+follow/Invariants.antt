@@ -1,4 +1,4 @@
-use Rattle.checks.proofs.setting.+follow.Given as goal
+use Rattle.checks.proofs.setting.Reads.+follow.Given as goal
 
 abbrev pub decreases-follow : goal.decreases-follow
 decreases-follow l = l.n

@@ -1,21 +1,9 @@
-use Rattle.std.proofs.Common.{◌≡◌, ap, ◌∙◌, arith}
+use Rattle.std.proofs.Common.{◌≡◌, ap, ◌∙◌}
 use Rattle.std.proofs.lemmas.Int.{to_z-of_z}
 use Rattle.line.specs.Queues.{enqueued}
 use Rattle.line.specs.Places.{place}
-use Rattle.line.proofs.Holding.{below, appended}
+use Rattle.line.proofs.Holding.{appended}
 use Rattle.line.proofs.queue.Queue.push.Goals as goal
-
-pub overflow_add-self : goal.overflow_add-self
-overflow_add-self g c =
-    let q = c.self.inside in
-    let l = below g.C.Cells.SIZE (g.C.Cells.cell q.cells) q.head q.len c.args.self.now c.self.view_is c.if-not-has_room.ensures in
-    omega arith
-
-pub invariant_of-self : goal.invariant_of-self
-invariant_of-self g c =
-    let q = c.self.inside in
-    let l = below g.C.Cells.SIZE (g.C.Cells.cell q.cells) q.head q.len c.args.self.now c.self.view_is c.if-not-has_room.ensures in
-    (c.self.invariant.0, omega arith)
 
 pub returns-clause-after : goal.returns-clause-after
 returns-clause-after g c =

@@ -1,6 +1,6 @@
 -- The four bytes of a place.
-use Rattle.std.proofs.Common.{◌≡◌, ℕ, ◌+◌, ◌*◌, ◌<◌, ◌≤◌, ◌≢◌, List, length, slice_index, ap, sym, ◌∙◌, arith, rules}
-use Rattle.std.proofs.lemmas.List.{places}
+use Rattle.std.proofs.Common.{◌≡◌, ℕ, pos, replicate, refl, ◌+◌, ◌*◌, ◌<◌, ◌≤◌, ◌≢◌, List, length, slice_index, ap, sym, ◌∙◌, arith, rules}
+use Rattle.std.proofs.lemmas.List.{places, get_or-replicate}
 use Rattle.line.specs.Registers.{number_at}
 use borrow.Rule.Slice.PartMut.{put_mid}
 
@@ -21,3 +21,8 @@ module _ (bytes part : List ℕ) (place size : ℕ) (fits : 4 * place + 4 ≤ le
 
   pub kept : (k : ℕ) → k ≢ place → number_at (put_mid (4 * place) size bytes part) k ≡ number_at bytes k
   kept k other = same_number (put_mid (4 * place) size bytes part) bytes k k (λ j h. search (rules, places))
+
+pub zeros : (n k : ℕ) → 4 * k + 4 ≤ n → number_at (replicate n 0) k ≡ pos 0
+zeros n k fits =
+    let zero : (j : ℕ) → j < n → slice_index (replicate n 0) j ≡ 0 = λ j h. get_or-replicate n j 0 0 h in
+    rw (zero (2 * (2 * k)) (omega arith), zero (2 * (2 * k) + 1) (omega arith), zero (2 * (2 * k + 1)) (omega arith), zero (2 * (2 * k + 1) + 1) (omega arith)) refl

@@ -37,6 +37,7 @@ impl Cells for Bank {
         ])
     }
 
+    #[tactic(auto, using(crate::proofs::Bytes::written, crate::proofs::Bytes::kept))]
     fn write(&mut self, place: usize, number: i32) {
         let at = 4 * place;
         self.bytes[at..at + 4].copy_from_slice(&number.to_be_bytes());

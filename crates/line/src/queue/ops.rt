@@ -31,6 +31,7 @@ impl<C: Cells> Queue<C> {
         }
     }
 
+    #[tactic(auto, using(crate::proofs::Holding::room))]
     pub fn has_room(&self) -> bool
         ensures { result ≡ accepts C.SIZE self.now }
     {
@@ -38,6 +39,7 @@ impl<C: Cells> Queue<C> {
     }
 
     // Adds a last number, where there is room.
+    #[tactic(auto, using(crate::proofs::Holding::below))]
     pub fn push(&mut self, number: i32) -> Result<(), Full>
         ensures answer { result ≡ if_room C.SIZE self.old (record {}) }
         ensures after { self.new ≡ enqueued C.SIZE number self.old }
@@ -52,6 +54,7 @@ impl<C: Cells> Queue<C> {
     }
 
     // Removes and gives the first number.
+    #[tactic(auto, using(crate::proofs::Holding::removed))]
     pub fn pop(&mut self) -> Option<i32>
         ensures answer { result ≡ first self.old }
         ensures after { self.new ≡ dequeued self.old }

@@ -1,24 +1,7 @@
-use Rattle.std.proofs.Common.{◌≡◌, ◌<◌, length, set, sym, ap, ◌∙◌, arith, w32, SFits, rules}
-use Rattle.std.proofs.lemmas.List.{set-get_or}
+use Rattle.std.proofs.Common.{◌<◌, length, set, ap, ◌∙◌, arith, w32, SFits, rules}
 use Rattle.std.proofs.lemmas.Int.{to_z-of_z}
-use Rattle.line.proofs.Moving.{none_of, none_left, more_left, removed_is, removed_more, written_more}
-use Rattle.line.specs.Queues.{dequeued}
+use Rattle.line.proofs.Moving.{more_left, removed_is, removed_more, written_more}
 use Rattle.line.proofs.transfer.next_all.Goals as goal
-
-pub returns-in_default : goal.returns-in_default
-returns-in_default g c =
-    let line = g.L.Line in
-    let now = line.readings c.loop-count.line in
-    let start = line.readings c.args.line.now in
-    let inv = c.loop-count.invariant in
-    let none = c.in_default.ensures.answer in
-    let last : c.loop-count.count ≡ length start = none_left start now c.loop-count.count inv.1 inv.0 none in
-    record {
-      count = omega (arith, last, c.loop-count.auto.places);
-      places = set-get_or _ _ _ ∙ inv.2;
-      readings = c.next.ensures.readings ∙ ap dequeued (none_of now none) ∙ sym (none_of now none) ∙ inv.1;
-      sends = c.next.ensures.sends ∙ inv.3;
-    }
 
 pub loop-count-preserved : goal.loop-count-preserved
 loop-count-preserved g c =

@@ -1,7 +1,7 @@
 // How a routine breaks a static rule, in words.
 ghost use Rattle.std.specs.Prelude.{◌≡◌, Some};
 ghost use Rattle.statics.specs.Typing.{binary_takes};
-ghost use Rattle.diagnostics.specs.Complaints.{complaint_text, sentence, mistyped, operands_text};
+ghost use Rattle.diagnostics.specs.Complaints.{complaint_text, sentence, mistyped};
 
 use excerpts::printable::Printable;
 use statics::rules::Rule;
@@ -65,8 +65,8 @@ impl Display for Complaint<'_> {
             Complaint::Operand(Unary::Negate) => write!(f, "'-' takes an integer"),
             Complaint::Operand(Unary::Not) => write!(f, "'not' takes a boolean"),
             Complaint::Operands(op) => {
-                let operands = Operands(*op);
-                write!(f, "{operands}")
+                let typ = operand_type(*op);
+                write!(f, "'{op}' takes two {typ}s")
             }
             Complaint::Assigned(name) => {
                 let name = Printable::text(name);
@@ -79,20 +79,6 @@ impl Display for Complaint<'_> {
             }
             Complaint::Temporaries => write!(f, "this expression needs more than 32 temporaries"),
         }
-    }
-}
-
-// An operator, and what it takes on both sides.
-#[derive(Clone, Copy)]
-struct Operands(Binary);
-
-impl Display for Operands {
-    ghost output = { λ o. Some (operands_text o.0) };
-
-    fn fmt<W: Write>(&self, f: &mut Formatter<W>) -> Result {
-        let op = self.0;
-        let typ = operand_type(op);
-        write!(f, "'{op}' takes two {typ}s")
     }
 }
 

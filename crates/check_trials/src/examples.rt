@@ -4,5 +4,4 @@ ghost use Rattle.check_trials.specs.Examples.{Unset, Temporaries};
 pub fn worked_examples()
     ensures unset { Unset }
     ensures temporaries { Temporaries }
-{
-}
+{}

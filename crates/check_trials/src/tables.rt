@@ -18,19 +18,13 @@ fn table_of(nodes: &[Node]) -> [Entry; 8] {
 
 // Why the first entries do not open.
 fn malformed(table: &[Entry], count: usize) -> Option<Malformed> {
-    match open(table, count) {
-        Ok(_) => None,
-        Err(malformed) => Some(malformed),
-    }
+    open(table, count).err()
 }
 
 // Which rule a table breaks that opens.
 fn violation(nodes: &[Node]) -> Result<Option<Violation>, Malformed> {
     let draft = open(&table_of(nodes), nodes.len())?;
-    match check(&draft) {
-        Ok(()) => Ok(None),
-        Err(violation) => Ok(Some(violation)),
-    }
+    Ok(check(&draft).err())
 }
 
 const ONE: Node = Node::Const(Value::Number(1));

@@ -1,6 +1,6 @@
 // Nodes as they are shown to a reader: a name is spelled, where it has a spelling.
 ghost use Rattle.std.specs.Prelude.{◌≡◌, Some};
-ghost use Rattle.console.specs.Naming.{name_of, named_text};
+ghost use Rattle.console.specs.Naming.{name_of as name_in, named_text};
 
 use excerpts::printable::Printable;
 use std::fmt::{Display, Formatter, Result, Write};
@@ -8,7 +8,7 @@ use tosca::table::Node;
 
 // The number of the name that a node has.
 pub fn name_of(node: Node) -> Option<u16>
-    ensures { result ≡ name_of node }
+    ensures { result ≡ name_in node }
 {
     match node {
         Node::Decl(name, _) | Node::Var(name) | Node::Assign(name, _) | Node::Input(name) => {

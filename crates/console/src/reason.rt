@@ -44,7 +44,7 @@ impl<'a> Reason<'a> {
 }
 
 // Why no token begins here.
-fn no_token<'a>(rest: &'a [u8]) -> Reason<'static>
+fn no_token(rest: &[u8]) -> Reason<'static>
     ensures { reason_text result ≡ no_token_text rest.now }
 {
     match rest {
@@ -55,13 +55,13 @@ fn no_token<'a>(rest: &'a [u8]) -> Reason<'static>
 }
 
 // What stands here.
-fn found<'a>(rest: &'a [u8]) -> Reason<'a>
+fn found(rest: &[u8]) -> Reason<'_>
     ensures { reason_text result ≡ not_next rest.now }
 {
     if rest.is_empty() {
         return Reason::End;
     }
-    Reason::Token(&rest[0..token_length(rest)])
+    Reason::Token(&rest[..token_length(rest)])
 }
 
 // How long the token is that begins here.
@@ -79,11 +79,9 @@ fn token_length(rest: &[u8]) -> usize
 fn word_length(rest: &[u8]) -> usize
     ensures { (result ≡ prefix_len is_ascii_alphanumeric rest.now) × (result ≤ length rest.now) }
 {
-    let mut n = 0;
-    while n < rest.len() && rest[n].is_ascii_alphanumeric() {
-        n += 1;
-    }
-    n
+    rest.iter()
+        .take_while(|b| b.is_ascii_alphanumeric())
+        .count()
 }
 
 impl Display for Reason<'_> {

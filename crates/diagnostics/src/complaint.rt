@@ -1,12 +1,11 @@
 // How a routine breaks a static rule, in words.
 ghost use Rattle.std.specs.Prelude.{◌≡◌, Some};
-ghost use Rattle.statics.specs.Typing.{binary_takes};
-ghost use Rattle.diagnostics.specs.Complaints.{complaint_text, sentence, mistyped, operands_text};
+ghost use Rattle.diagnostics.specs.Complaints.{complaint_text, sentence, mistyped};
 
 use excerpts::printable::Printable;
 use statics::rules::Rule;
 use std::fmt::{Display, Formatter, Result, Write};
-use tosca::operators::{Binary, SimpleType, Unary};
+use tosca::operators::{Binary, Unary};
 use tosca::table::Node;
 
 // A broken rule, with the name or the operator that breaks it.
@@ -64,10 +63,10 @@ impl Display for Complaint<'_> {
             }
             Complaint::Operand(Unary::Negate) => write!(f, "'-' takes an integer"),
             Complaint::Operand(Unary::Not) => write!(f, "'not' takes a boolean"),
-            Complaint::Operands(op) => {
-                let operands = Operands(*op);
-                write!(f, "{operands}")
+            Complaint::Operands(op @ (Binary::And | Binary::Or)) => {
+                write!(f, "'{op}' takes two booleans")
             }
+            Complaint::Operands(op) => write!(f, "'{op}' takes two integers"),
             Complaint::Assigned(name) => {
                 let name = Printable::text(name);
                 write!(f, "'{name}' and what is assigned to it have two types")
@@ -79,28 +78,5 @@ impl Display for Complaint<'_> {
             }
             Complaint::Temporaries => write!(f, "this expression needs more than 32 temporaries"),
         }
-    }
-}
-
-// An operator, and what it takes on both sides.
-#[derive(Clone, Copy)]
-struct Operands(Binary);
-
-impl Display for Operands {
-    ghost output = { λ o. Some (operands_text o.0) };
-
-    fn fmt<W: Write>(&self, f: &mut Formatter<W>) -> Result {
-        let op = self.0;
-        let typ = operand_type(op);
-        write!(f, "'{op}' takes two {typ}s")
-    }
-}
-
-fn operand_type(op: Binary) -> SimpleType
-    ensures { result ≡ binary_takes op }
-{
-    match op {
-        Binary::And | Binary::Or => SimpleType::Boolean,
-        _ => SimpleType::Integer,
     }
 }

@@ -18,7 +18,7 @@ impl Position {
     {
         let offset = offset.min(text.len());
         Position {
-            line: 1 + line_feeds(&text[0..offset]),
+            line: 1 + line_feeds(&text[..offset]),
             column: 1 + (offset - line_start(text, offset)),
         }
     }
@@ -28,9 +28,7 @@ impl Display for Position {
     ghost output = { λ p. Some (position_text p) };
 
     fn fmt<W: Write>(&self, f: &mut Formatter<W>) -> Result {
-        let line = self.line;
-        let column = self.column;
-        write!(f, "{line}:{column}")
+        write!(f, "{}:{}", self.line, self.column)
     }
 }
 
@@ -38,13 +36,7 @@ impl Display for Position {
 fn line_feeds(bytes: &[u8]) -> usize
     ensures { (result ≡ count_by feed bytes.now) × (result ≤ length bytes.now) }
 {
-    let mut n = 0;
-    for b in bytes {
-        if *b == b'\n' {
-            n += 1;
-        }
-    }
-    n
+    bytes.iter().filter(|b| **b == b'\n').count()
 }
 
 // Where the line of the offset starts.
@@ -52,11 +44,8 @@ pub(crate) fn line_start(text: &[u8], offset: usize) -> usize
     requires { offset ≤ length text.now }
     ensures { (result ≡ line_start_of text.now offset) × (result ≤ offset) }
 {
-    let mut start = offset;
-    while start > 0 && text[start - 1] != b'\n' {
-        start -= 1;
-    }
-    start
+    let line = text[..offset].iter().rev().take_while(|b| **b != b'\n');
+    offset - line.count()
 }
 
 // Where it ends: at its line feed, or at the end of the text.
@@ -64,9 +53,6 @@ pub(crate) fn line_end(text: &[u8], offset: usize) -> usize
     requires { offset ≤ length text.now }
     ensures { (result ≡ line_end_of text.now offset) × ((offset ≤ result) × (result ≤ length text.now)) }
 {
-    let mut end = offset;
-    while end < text.len() && text[end] != b'\n' {
-        end += 1;
-    }
-    end
+    let line = text[offset..].iter().take_while(|b| **b != b'\n');
+    offset + line.count()
 }

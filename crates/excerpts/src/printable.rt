@@ -34,6 +34,7 @@ pub struct Printable<'a> {
 }
 
 impl<'a> Printable<'a> {
+    // Two constructors: with one, each call would have to name the style, as in `new(name, Style::Text)`.
     pub fn text(bytes: &'a [u8]) -> Printable<'a>
         ensures { (result.style ≡ Style.Text) × (result.bytes.now ≡ bytes.now) }
     {

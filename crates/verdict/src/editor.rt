@@ -5,7 +5,7 @@ ghost use Rattle.verdict.specs.Verdicts.{verdict_of, rejected_number, rejected_p
 use crate::judging::judge;
 use crate::rejection::Rejection;
 
-// The number of the first question with a no, and its place in the text; zeros if there is none.
+// The number of the first question with a no, and its place in the text. C has no Option: zeros stand for none.
 #[repr(C)]
 #[derive(Clone, Copy)]
 pub struct Verdict {
@@ -18,11 +18,12 @@ impl Verdict {
         number: 0,
         place: 0,
     };
+}
 
-    fn of(rejection: Rejection) -> Verdict
-        ensures number { result.number ≡ rejected_number rejection }
-        ensures place { result.place ≡ rejected_place rejection }
-    {
+impl From<Rejection> for Verdict {
+    ghost from_gives = { λ r v. (v.number ≡ rejected_number r) × (v.place ≡ rejected_place r) };
+
+    fn from(rejection: Rejection) -> Verdict {
         Verdict {
             number: u32::from(rejection.number()),
             place: rejection.place(),
@@ -36,6 +37,6 @@ pub fn wisnoeur_verdict(text: &[u8]) -> Verdict
 {
     match judge(text) {
         Ok(_) => Verdict::PASSED,
-        Err(rejection) => Verdict::of(rejection),
+        Err(rejection) => Verdict::from(rejection),
     }
 }

@@ -15,30 +15,18 @@ pub fn judge(text: &[u8]) -> Result<usize, Rejection>
     ensures { Judged text.now result }
 {
     let mut table = [BLANK; MAX_NODES];
-    let count = match read(text, &mut table) {
-        Ok(count) => count,
-        Err(refusal) => return Err(Rejection::Unread(refusal)),
-    };
-    let Ok(draft) = open(&table, count) else {
-        unreachable()
-    };
-    match check(&draft) {
-        Ok(()) => Ok(count),
-        Err(violation) => {
-            let entry = entry_at(draft.entries(), violation.node);
-            Err(Rejection::Unsound(violation, entry))
-        }
-    }
+    let count = read(text, &mut table)?;
+    let draft = open(&table, count).unwrap();
+    check(&draft).map_err(|violation| {
+        Rejection::Unsound(violation, entry_at(draft.entries(), violation.node))
+    })?;
+    Ok(count)
 }
 
 // The entry of a number, which is blank past the end.
 fn entry_at(entries: &[Entry], node: u16) -> Entry
     ensures { result ≡ slice_index_or entries.now node blank }
 {
-    let number = usize::from(node);
-    if number < entries.len() {
-        entries[number]
-    } else {
-        BLANK
-    }
+    let entry = entries.get(usize::from(node));
+    entry.copied().unwrap_or(BLANK)
 }

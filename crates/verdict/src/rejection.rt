@@ -1,5 +1,6 @@
 // Why a text is no routine that may be translated.
 ghost use Rattle.std.specs.Prelude.{◌≡◌};
+ghost use Rattle.verdict.specs.declared.rejection.Rejection.TheVariants.{Unread};
 ghost use Rattle.verdict.specs.Verdicts.{rejected_number, rejected_place};
 
 use lexer::token::Refusal;
@@ -12,6 +13,14 @@ pub enum Rejection {
     Unread(Refusal),
     // it breaks a static rule; with the entry of the node at fault
     Unsound(Violation, Entry),
+}
+
+impl From<Refusal> for Rejection {
+    ghost from_gives = { λ refusal rejection. rejection ≡ Unread refusal };
+
+    fn from(refusal: Refusal) -> Rejection {
+        Rejection::Unread(refusal)
+    }
 }
 
 impl Rejection {

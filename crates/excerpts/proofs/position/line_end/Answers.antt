@@ -1,12 +1,18 @@
-use Rattle.std.proofs.Common.{sym, ◌∙◌, arith}
-use Rattle.excerpts.proofs.LineSteps.{end_more, end_feed, end_all}
+use Rattle.std.proofs.Common.{rules, tests, arith, ◌-◌, length, take, drop, length-drop, ap, ◌∙◌}
+use Rattle.std.proofs.lemmas.Iterator.{YieldsList-from_slice}
+use Rattle.std.proofs.lemmas.Iterator.Consumers.{count_from_yields_List}
+use Rattle.std.proofs.lemmas.Iterator.Search.{YieldsList-from_take_while}
+use Rattle.std.proofs.lemmas.List.{take_rest}
+use Rattle.std.proofs.lemmas.List.Folds.{length-prefix_len}
+use Rattle.std.proofs.lemmas.List.Sums.{prefix_len-le-length}
+use Rattle.std.specs.List.{prefix_len}
+use Rattle.excerpts.specs.Lines.{in_line}
 use Rattle.excerpts.proofs.position.line_end.Goals as goal
 
-pub loop-end-preserved : goal.loop-end-preserved
-loop-end-preserved c = (end_more c.args.text.now c.loop-end.end c.loop-end-test.true c.if-text-end-ne10.true ∙ c.loop-end.invariant.0, omega arith, omega arith)
-
-pub returns-else-text-end-ne10 : goal.returns-else-text-end-ne10
-returns-else-text-end-ne10 c = (sym (end_feed c.args.text.now c.loop-end.end c.loop-end-test.true c.if-text-end-ne10.false) ∙ c.loop-end.invariant.0, (omega arith, omega arith))
-
-pub returns-after-loop-end : goal.returns-after-loop-end
-returns-after-loop-end c = (sym (end_all c.args.text.now c.loop-end.end c.loop-end-test.false) ∙ c.loop-end.invariant.0, (omega arith, omega arith))
+pub returns : goal.returns
+returns c =
+    let text = c.args.text.now in
+    let k = c.args.offset in
+    let rest = take (length text - k) (drop k text) in
+    let n = count_from_yields_List c.take_while-line.result _ c.count.ensures.ran (YieldsList-from_take_while _ in_line (YieldsList-from_slice rest (cc)) c.take_while-line.ensures.closure c.take_while-line.ensures.done (λ x b q k. search (rules, tests))) ∙ length-prefix_len in_line rest ∙ ap (prefix_len in_line) (take_rest text k) in
+    omega (arith, n, prefix_len-le-length in_line (drop k text), length-drop k text)

@@ -1,13 +1,13 @@
-use Rattle.std.proofs.Common.{arith}
-use Rattle.excerpts.proofs.LineSteps.{start_less, start_feed}
+use Rattle.std.proofs.Common.{rules, tests, arith, take, reverse, ◌∙◌}
+use Rattle.std.proofs.lemmas.Iterator.Adapters.{YieldsList-from_rev_slice}
+use Rattle.std.proofs.lemmas.Iterator.Consumers.{count_from_yields_List}
+use Rattle.std.proofs.lemmas.Iterator.Search.{YieldsList-from_take_while}
+use Rattle.std.proofs.lemmas.List.Folds.{length-prefix_len}
+use Rattle.excerpts.specs.Lines.{in_line}
 use Rattle.excerpts.proofs.position.line_start.Goals as goal
 
-pub loop-start-preserved : goal.loop-start-preserved
-loop-start-preserved c =
-    let s = start_less c.args.text.now c.loop-start.start c.loop-start-test.true (omega arith) c.if-text-start-ne10.true in
-    (omega arith, omega arith)
-
-pub returns-else-text-start-ne10 : goal.returns-else-text-start-ne10
-returns-else-text-start-ne10 c =
-    let s = start_feed c.args.text.now c.loop-start.start c.loop-start-test.true (omega arith) c.if-text-start-ne10.false in
-    (omega arith, omega arith)
+pub returns : goal.returns
+returns c =
+    let before = take c.args.offset c.args.text.now in
+    let n = count_from_yields_List c.take_while-line.result _ c.count.ensures.ran (YieldsList-from_take_while _ in_line (YieldsList-from_rev_slice before (cc)) c.take_while-line.ensures.closure c.take_while-line.ensures.done (λ x b q k. search (rules, tests))) ∙ length-prefix_len in_line (reverse before) in
+    (omega (arith, n), omega arith)

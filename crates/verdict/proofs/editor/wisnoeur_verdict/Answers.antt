@@ -11,4 +11,4 @@ returns-in-Ok c =
 pub returns-in-Err : goal.returns-in-Err
 returns-in-Err c =
     let e = err_verdict c.args.text.now c.in-Err.rejection c.in-Err.ensures in
-    record { number = c.of.ensures.number ∙ ap (λ (v : Verdict). v.number) e; place = c.of.ensures.place ∙ ap (λ (v : Verdict). v.place) e }
+    record { number = c.from.ensures.0 ∙ ap (λ (v : Verdict). v.number) e; place = c.from.ensures.1 ∙ ap (λ (v : Verdict). v.place) e }

@@ -39,34 +39,34 @@ less_input P A B C D E t u x y T T' n place r v a b c l d =
     (d.ready, omega (arith, a.one, b.one, c.one, same, d.one), omega (arith, a.one, a.count, b.one, b.count, c.one, c.count, same, l.count, d.one, d.count))
 
 -- name := expr
-assigning : (d : ℕ) (P A B : Parser) (T : List Entry) (x : ℕ) (L : List Sym) → marks L ≡ d → d ≤ 32 → x < 64 → Read P (name x) A → Read A (mark Becomes) B → Goes (cmd ∷ L) [] P.count T (ahead P) (expr ∷ does (a_assign A.place x) ∷ L) [] B.count T (ahead B)
+assigning : (d : ℕ) (P A B : Parser) (T : List Entry) (x : ℕ) (L : List Sym) → marks L ≡ d → d ≤ 32 → x < 64 → Read P (name x) A → Read A (mark Becomes) B → Goes (cmd ∷ L) [] P.count T (ahead P) (expr ∷ does (a_assign A.lookahead.place x) ∷ L) [] B.count T (ahead B)
 assigning d P A B T x L m h few a b = chain (reads_on a (λ s. refl) (within_limit m h) (lt-ltb x 64 few)) (reads_on b (λ s. refl) (within_limit m h) refl)
 
-pub assigned : (d : ℕ) (P A B C D : Parser) (T T₁ T₂ : List Entry) (x v r : ℕ) → d ≤ 32 → x < 64 → Read P (name x) A → Read A (mark Becomes) B → Parsed expr d B T C T₁ (Ok v) → Listed C T₁ (Assign x v) A.place r D T₂ → Parsed cmd d P T D T₂ (Ok r)
-assigned d P A B C D T T₁ T₂ x v r h few a b e l = λ L m. chain (assigning d P A B T x L m h few a b) (chain (e (does (a_assign A.place x) ∷ L) m) (lists (a_assign A.place x) (λ V es. refl) l))
+pub assigned : (d : ℕ) (P A B C D : Parser) (T T₁ T₂ : List Entry) (x v r : ℕ) → d ≤ 32 → x < 64 → Read P (name x) A → Read A (mark Becomes) B → Parsed expr d B T C T₁ (Ok v) → Listed C T₁ (Assign x v) A.lookahead.place r D T₂ → Parsed cmd d P T D T₂ (Ok r)
+assigned d P A B C D T T₁ T₂ x v r h few a b e l = λ L m. chain (assigning d P A B T x L m h few a b) (chain (e (does (a_assign A.lookahead.place x) ∷ L) m) (lists (a_assign A.lookahead.place x) (λ V es. refl) l))
 
 pub assigned_wrong : (d : ℕ) (P A B C D : Parser) (T T₁ T₂ : List Entry) (x : ℕ) (r : Refusal) → d ≤ 32 → x < 64 → Read P (name x) A → Read A (mark Becomes) B → Parsed expr d B T C T₁ (Err r) → Parsed cmd d P T D T₂ (Err r)
-assigned_wrong d P A B C D T T₁ T₂ x r h few a b e = λ L m. chain_stop (assigning d P A B T x L m h few a b) (e (does (a_assign A.place x) ∷ L) m)
+assigned_wrong d P A B C D T T₁ T₂ x r h few a b e = λ L m. chain_stop (assigning d P A B T x L m h few a b) (e (does (a_assign A.lookahead.place x) ∷ L) m)
 
 -- read ( name )
-inputting : (d : ℕ) (P A B C D : Parser) (T T₁ : List Entry) (x r : ℕ) (L : List Sym) → marks L ≡ d → d ≤ 32 → x < 64 → Read P (start begins.Read) A → Read A (pre Open) B → Read B (name x) C → Listed C T (Input x) P.place r D T₁ → Goes (cmd ∷ L) [] P.count T (ahead P) (is Close ∷ L) (r ∷ []) D.count T₁ (ahead D)
-inputting d P A B C D T T₁ x r L m h few a b n l = chain (reads_on a (λ s. refl) (within_limit m h) refl) (chain (reads_on b (λ s. refl) (within_limit m h) refl) (chain (reads_act (a_input P.place x) n (λ s. refl) (within_limit m h) (lt-ltb x 64 few)) (lists (a_input P.place x) (λ V es. refl) l)))
+inputting : (d : ℕ) (P A B C D : Parser) (T T₁ : List Entry) (x r : ℕ) (L : List Sym) → marks L ≡ d → d ≤ 32 → x < 64 → Read P (start begins.Read) A → Read A (pre Open) B → Read B (name x) C → Listed C T (Input x) P.lookahead.place r D T₁ → Goes (cmd ∷ L) [] P.count T (ahead P) (is Close ∷ L) (r ∷ []) D.count T₁ (ahead D)
+inputting d P A B C D T T₁ x r L m h few a b n l = chain (reads_on a (λ s. refl) (within_limit m h) refl) (chain (reads_on b (λ s. refl) (within_limit m h) refl) (chain (reads_act (a_input P.lookahead.place x) n (λ s. refl) (within_limit m h) (lt-ltb x 64 few)) (lists (a_input P.lookahead.place x) (λ V es. refl) l)))
 
-pub inputs : (d : ℕ) (P A B C D E : Parser) (T T₁ : List Entry) (x r : ℕ) → d ≤ 32 → x < 64 → Read P (start begins.Read) A → Read A (pre Open) B → Read B (name x) C → Listed C T (Input x) P.place r D T₁ → Read D (mark Close) E → Parsed cmd d P T E T₁ (Ok r)
+pub inputs : (d : ℕ) (P A B C D E : Parser) (T T₁ : List Entry) (x r : ℕ) → d ≤ 32 → x < 64 → Read P (start begins.Read) A → Read A (pre Open) B → Read B (name x) C → Listed C T (Input x) P.lookahead.place r D T₁ → Read D (mark Close) E → Parsed cmd d P T E T₁ (Ok r)
 inputs d P A B C D E T T₁ x r h few a b n l e = λ L m. chain (inputting d P A B C D T T₁ x r L m h few a b n l) (reads_on e (λ s. refl) (within_limit m h) refl)
 
-pub inputs_open : (d : ℕ) (P A B C D E : Parser) (T T₁ T₂ : List Entry) (x r : ℕ) (w : Refusal) → d ≤ 32 → x < 64 → Read P (start begins.Read) A → Read A (pre Open) B → Read B (name x) C → Listed C T (Input x) P.place r D T₁ → Missed Close D w → Parsed cmd d P T E T₂ (Err w)
+pub inputs_open : (d : ℕ) (P A B C D E : Parser) (T T₁ T₂ : List Entry) (x r : ℕ) (w : Refusal) → d ≤ 32 → x < 64 → Read P (start begins.Read) A → Read A (pre Open) B → Read B (name x) C → Listed C T (Input x) P.lookahead.place r D T₁ → Missed Close D w → Parsed cmd d P T E T₂ (Err w)
 inputs_open d P A B C D E T T₁ T₂ x r w h few a b n l e = λ L m. chain_stop (inputting d P A B C D T T₁ x r L m h few a b n l) (misses_mark Close D e (λ s. refl) (within_limit m h))
 
 -- write ( expr )
-outputting : (d : ℕ) (P A B : Parser) (T : List Entry) (L : List Sym) → marks L ≡ d → d ≤ 32 → Read P (start begins.Write) A → Read A (pre Open) B → Goes (cmd ∷ L) [] P.count T (ahead P) (expr ∷ is Close ∷ does (a_output P.place) ∷ L) [] B.count T (ahead B)
+outputting : (d : ℕ) (P A B : Parser) (T : List Entry) (L : List Sym) → marks L ≡ d → d ≤ 32 → Read P (start begins.Write) A → Read A (pre Open) B → Goes (cmd ∷ L) [] P.count T (ahead P) (expr ∷ is Close ∷ does (a_output P.lookahead.place) ∷ L) [] B.count T (ahead B)
 outputting d P A B T L m h a b = chain (reads_on a (λ s. refl) (within_limit m h) refl) (reads_on b (λ s. refl) (within_limit m h) refl)
 
-pub outputs : (d : ℕ) (P A B C D E : Parser) (T T₁ T₂ : List Entry) (v r : ℕ) → d ≤ 32 → Read P (start begins.Write) A → Read A (pre Open) B → Parsed expr d B T C T₁ (Ok v) → Read C (mark Close) D → Listed D T₁ (Output v) P.place r E T₂ → Parsed cmd d P T E T₂ (Ok r)
-outputs d P A B C D E T T₁ T₂ v r h a b e c l = λ L m. chain (outputting d P A B T L m h a b) (chain (e (is Close ∷ does (a_output P.place) ∷ L) m) (chain (reads_on c (λ s. refl) (within_limit m h) refl) (lists (a_output P.place) (λ V es. refl) l)))
+pub outputs : (d : ℕ) (P A B C D E : Parser) (T T₁ T₂ : List Entry) (v r : ℕ) → d ≤ 32 → Read P (start begins.Write) A → Read A (pre Open) B → Parsed expr d B T C T₁ (Ok v) → Read C (mark Close) D → Listed D T₁ (Output v) P.lookahead.place r E T₂ → Parsed cmd d P T E T₂ (Ok r)
+outputs d P A B C D E T T₁ T₂ v r h a b e c l = λ L m. chain (outputting d P A B T L m h a b) (chain (e (is Close ∷ does (a_output P.lookahead.place) ∷ L) m) (chain (reads_on c (λ s. refl) (within_limit m h) refl) (lists (a_output P.lookahead.place) (λ V es. refl) l)))
 
 pub outputs_wrong : (d : ℕ) (P A B C D : Parser) (T T₁ T₂ : List Entry) (w : Refusal) → d ≤ 32 → Read P (start begins.Write) A → Read A (pre Open) B → Parsed expr d B T C T₁ (Err w) → Parsed cmd d P T D T₂ (Err w)
-outputs_wrong d P A B C D T T₁ T₂ w h a b e = λ L m. chain_stop (outputting d P A B T L m h a b) (e (is Close ∷ does (a_output P.place) ∷ L) m)
+outputs_wrong d P A B C D T T₁ T₂ w h a b e = λ L m. chain_stop (outputting d P A B T L m h a b) (e (is Close ∷ does (a_output P.lookahead.place) ∷ L) m)
 
 pub outputs_open : (d : ℕ) (P A B C D : Parser) (T T₁ T₂ : List Entry) (v : ℕ) (w : Refusal) → d ≤ 32 → Read P (start begins.Write) A → Read A (pre Open) B → Parsed expr d B T C T₁ (Ok v) → Missed Close C w → Parsed cmd d P T D T₂ (Err w)
-outputs_open d P A B C D T T₁ T₂ v w h a b e c = λ L m. chain_stop (outputting d P A B T L m h a b) (chain_stop (e (is Close ∷ does (a_output P.place) ∷ L) m) (misses_mark Close C c (λ s. refl) (within_limit m h)))
+outputs_open d P A B C D T T₁ T₂ v w h a b e c = λ L m. chain_stop (outputting d P A B T L m h a b) (chain_stop (e (is Close ∷ does (a_output P.lookahead.place) ∷ L) m) (misses_mark Close C c (λ s. refl) (within_limit m h)))

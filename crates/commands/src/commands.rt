@@ -11,17 +11,18 @@ use crate::simple_commands::{assignment, input, is_else, output, skip};
 use expressions::expressions::expr;
 use grammar::symbols::{Mark, Start};
 use lexer::token::{Refusal, Token};
+use parser::depth::Depth;
 use parser::parser::Parser;
 use tosca::table::{Entry, Node};
 
 // A command; where none begins, it is the empty one.
 #[cycle(alternative_block_choice_cmd_cmds_repetition)]
-fn cmd(parser: &mut Parser<'_>, table: &mut [Entry], depth: usize) -> Result<u16, Refusal>
-    requires { (Ready parser.old) × ((depth ≤ 32) × (Roomy parser.old)) }
+fn cmd(parser: &mut Parser<'_>, table: &mut [Entry], depth: Depth) -> Result<u16, Refusal>
+    requires { (Ready parser.old) × (Roomy parser.old) }
     ensures less { Less 1 parser.old parser.new result }
-    ensures is { Parsed cmd depth parser.old table.old parser.new table.new result }
+    ensures is { Parsed cmd depth.level parser.old table.old parser.new table.new result }
 {
-    match parser.token {
+    match parser.lookahead.token {
         Token::Name(_) => assignment(parser, table, depth),
         Token::Start(start) => match start {
             Start::Begin => block(parser, table, depth),
@@ -36,14 +37,14 @@ fn cmd(parser: &mut Parser<'_>, table: &mut [Entry], depth: usize) -> Result<u16
 
 // cmd {; cmd} end
 #[cycle(alternative_block_choice_cmd_cmds_repetition)]
-pub fn cmds(parser: &mut Parser<'_>, table: &mut [Entry], depth: usize) -> Result<u16, Refusal>
-    requires { (Ready parser.old) × ((depth ≤ 32) × (Roomy parser.old)) }
+pub fn cmds(parser: &mut Parser<'_>, table: &mut [Entry], depth: Depth) -> Result<u16, Refusal>
+    requires { (Ready parser.old) × (Roomy parser.old) }
     ensures less { Less 0 parser.old parser.new result }
-    ensures is { Takes (λ L. cmd ∷ cmds ∷ L) (λ L. L) depth parser.old table.old parser.new table.new result }
+    ensures is { Takes (λ L. cmd ∷ cmds ∷ L) (λ L. L) depth.level parser.old table.old parser.new table.new result }
 {
     let mut all = cmd(parser, table, depth)?;
     while parser.is_at(Mark::Semicolon) {
-        let place = parser.place;
+        let place = parser.lookahead.place;
         parser.advance()?;
         let next = cmd(parser, table, depth)?;
         all = parser.emit(table, Node::Seq(all, next), place);
@@ -54,25 +55,25 @@ pub fn cmds(parser: &mut Parser<'_>, table: &mut [Entry], depth: usize) -> Resul
 
 // begin cmd {; cmd} end
 #[cycle(alternative_block_choice_cmd_cmds_repetition)]
-fn block(parser: &mut Parser<'_>, table: &mut [Entry], depth: usize) -> Result<u16, Refusal>
-    requires { (Ready parser.old) × ((depth ≤ 32) × (meant parser.old.token ≡ other (start Begin))) }
+fn block(parser: &mut Parser<'_>, table: &mut [Entry], depth: Depth) -> Result<u16, Refusal>
+    requires { (Ready parser.old) × (meant parser.old.lookahead.token ≡ other (start Begin)) }
     ensures less { Less 0 parser.old parser.new result }
-    ensures is { Parsed cmd depth parser.old table.old parser.new table.new result }
+    ensures is { Parsed cmd depth.level parser.old table.old parser.new table.new result }
 {
-    let inner = parser.deeper(depth)?;
+    let inner = parser.deeper(depth.level)?;
     parser.advance()?;
     cmds(parser, table, inner)
 }
 
 // if expr then cmd [else cmd]
 #[cycle(alternative_block_choice_cmd_cmds_repetition)]
-fn choice(parser: &mut Parser<'_>, table: &mut [Entry], depth: usize) -> Result<u16, Refusal>
-    requires { (Ready parser.old) × ((depth ≤ 32) × (meant parser.old.token ≡ other (start If))) }
+fn choice(parser: &mut Parser<'_>, table: &mut [Entry], depth: Depth) -> Result<u16, Refusal>
+    requires { (Ready parser.old) × (meant parser.old.lookahead.token ≡ other (start If)) }
     ensures less { Less 0 parser.old parser.new result }
-    ensures is { Parsed cmd depth parser.old table.old parser.new table.new result }
+    ensures is { Parsed cmd depth.level parser.old table.old parser.new table.new result }
 {
-    let place = parser.place;
-    let inner = parser.deeper(depth)?;
+    let place = parser.lookahead.place;
+    let inner = parser.deeper(depth.level)?;
     parser.advance()?;
     let test = expr(parser, table, inner)?;
     parser.expect(Mark::Then)?;
@@ -83,10 +84,10 @@ fn choice(parser: &mut Parser<'_>, table: &mut [Entry], depth: usize) -> Result<
 
 // [else cmd]
 #[cycle(alternative_block_choice_cmd_cmds_repetition)]
-fn alternative(parser: &mut Parser<'_>, table: &mut [Entry], depth: usize) -> Result<u16, Refusal>
-    requires { (Ready parser.old) × ((depth ≤ 32) × (Roomy parser.old)) }
+fn alternative(parser: &mut Parser<'_>, table: &mut [Entry], depth: Depth) -> Result<u16, Refusal>
+    requires { (Ready parser.old) × (Roomy parser.old) }
     ensures less { Less 1 parser.old parser.new result }
-    ensures is { Parsed elses depth parser.old table.old parser.new table.new result }
+    ensures is { Parsed elses depth.level parser.old table.old parser.new table.new result }
 {
     if !is_else(parser) {
         return Ok(skip(parser, table));
@@ -97,13 +98,13 @@ fn alternative(parser: &mut Parser<'_>, table: &mut [Entry], depth: usize) -> Re
 
 // while expr do cmd
 #[cycle(alternative_block_choice_cmd_cmds_repetition)]
-fn repetition(parser: &mut Parser<'_>, table: &mut [Entry], depth: usize) -> Result<u16, Refusal>
-    requires { (Ready parser.old) × ((depth ≤ 32) × (meant parser.old.token ≡ other (start While))) }
+fn repetition(parser: &mut Parser<'_>, table: &mut [Entry], depth: Depth) -> Result<u16, Refusal>
+    requires { (Ready parser.old) × (meant parser.old.lookahead.token ≡ other (start While)) }
     ensures less { Less 0 parser.old parser.new result }
-    ensures is { Parsed cmd depth parser.old table.old parser.new table.new result }
+    ensures is { Parsed cmd depth.level parser.old table.old parser.new table.new result }
 {
-    let place = parser.place;
-    let inner = parser.deeper(depth)?;
+    let place = parser.lookahead.place;
+    let inner = parser.deeper(depth.level)?;
     parser.advance()?;
     let test = expr(parser, table, inner)?;
     parser.expect(Mark::Do)?;

@@ -11,6 +11,7 @@ ghost use Rattle.parser.specs.Parsing.{Parsed, Less};
 use expressions::expressions::expr;
 use grammar::symbols::Mark;
 use lexer::token::{Refusal, Token};
+use parser::depth::Depth;
 use parser::parser::Parser;
 use tosca::table::{Entry, Node};
 
@@ -18,14 +19,14 @@ use tosca::table::{Entry, Node};
 pub(crate) fn assignment(
     parser: &mut Parser<'_>,
     table: &mut [Entry],
-    depth: usize,
+    depth: Depth,
 ) -> Result<u16, Refusal>
-    requires { (Ready parser.old) × ((depth ≤ 32) × (is_name (next parser.old) ≡ true)) }
+    requires { (Ready parser.old) × (is_name (next parser.old) ≡ true) }
     ensures less { Less 0 parser.old parser.new result }
-    ensures is { Parsed cmd depth parser.old table.old parser.new table.new result }
+    ensures is { Parsed cmd depth.level parser.old table.old parser.new table.new result }
 {
     let name = parser.name()?;
-    let place = parser.place;
+    let place = parser.lookahead.place;
     parser.expect(Mark::Becomes)?;
     let value = expr(parser, table, depth)?;
     Ok(parser.emit(table, Node::Assign(name, value), place))
@@ -33,11 +34,11 @@ pub(crate) fn assignment(
 
 // read ( name )
 pub(crate) fn input(parser: &mut Parser<'_>, table: &mut [Entry]) -> Result<u16, Refusal>
-    requires { (Ready parser.old) × (meant parser.old.token ≡ other (start Read)) }
+    requires { (Ready parser.old) × (meant parser.old.lookahead.token ≡ other (start Read)) }
     ensures less { Less 0 parser.old parser.new result }
     ensures is { (depth : ℕ) → depth ≤ 32 → Parsed cmd depth parser.old table.old parser.new table.new result }
 {
-    let place = parser.place;
+    let place = parser.lookahead.place;
     parser.advance()?;
     parser.open()?;
     let name = parser.name()?;
@@ -50,13 +51,13 @@ pub(crate) fn input(parser: &mut Parser<'_>, table: &mut [Entry]) -> Result<u16,
 pub(crate) fn output(
     parser: &mut Parser<'_>,
     table: &mut [Entry],
-    depth: usize,
+    depth: Depth,
 ) -> Result<u16, Refusal>
-    requires { (Ready parser.old) × ((depth ≤ 32) × (meant parser.old.token ≡ other (start Write))) }
+    requires { (Ready parser.old) × (meant parser.old.lookahead.token ≡ other (start Write)) }
     ensures less { Less 0 parser.old parser.new result }
-    ensures is { Parsed cmd depth parser.old table.old parser.new table.new result }
+    ensures is { Parsed cmd depth.level parser.old table.old parser.new table.new result }
 {
-    let place = parser.place;
+    let place = parser.lookahead.place;
     parser.advance()?;
     parser.open()?;
     let value = expr(parser, table, depth)?;
@@ -68,17 +69,14 @@ pub(crate) fn output(
 pub(crate) fn is_else(parser: &Parser<'_>) -> bool
     ensures { result ≡ is_else_token (next parser.now) }
 {
-    match parser.token {
-        Token::Else => true,
-        _ => false,
-    }
+    matches!(parser.lookahead.token, Token::Else)
 }
 
 // The empty command, which stands at the next token.
 pub(crate) fn skip(parser: &mut Parser<'_>, table: &mut [Entry]) -> u16
-    requires { (parser.old.count < 65535) × (parser.old.place ≤ 16384) }
-    ensures { Listed parser.old table.old Node.Skip parser.old.place result parser.new table.new }
+    requires { (parser.old.count < 65535) × (parser.old.lookahead.place ≤ 16384) }
+    ensures { Listed parser.old table.old Node.Skip parser.old.lookahead.place result parser.new table.new }
 {
-    let place = parser.place;
+    let place = parser.lookahead.place;
     parser.emit(table, Node::Skip, place)
 }

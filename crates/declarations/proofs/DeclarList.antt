@@ -40,7 +40,7 @@ module _ (P A : Parser) (T T₁ : List Entry) (ns : List Named) (f : Drafted a_n
       retype_holds y P.count B.count T₁ T₂ was es ns h.0 (subst (λ c. Holds was (es ++ drafts Integer ns) c T₁) (sym a.count) (f.holds was es h)) e,
       f.reads [] L m (listing V es)
           ∙ ap (reading (type ns ∷ L) (listing V es)) a.token
-          ∙ takes (type ns ∷ L) (is Semicolon ∷ decls ∷ L) (listing V es) (declares list (typed y ns) (listing V es)) (ty y) A.place (ahead B) refl (shallow m) refl
+          ∙ takes (type ns ∷ L) (is Semicolon ∷ decls ∷ L) (listing V es) (declares list (typed y ns) (listing V es)) (ty y) A.lookahead.place (ahead B) refl (shallow m) refl
           ∙ ap (λ s. reading (is Semicolon ∷ decls ∷ L) s (ahead B)) (declares_drafts y ns V es),
     );
   }
@@ -78,7 +78,7 @@ not_begin (ty y) a h = refl
 deep : {n : ℕ} → n ≡ 0 → suc n ≤ 32
 deep m = omega (arith, m)
 
-no_begin : {J L : List Sym} {T : List Entry} (Q : Parser) (e : Refusal) → Unbegun Q e → (is_begin (next Q) ≡ false → (s : Listing) → step list J s (next Q) Q.place ≡ stuck) → ((s : Listing) → step list J s (start Begin) Q.place ≡ go (body L) s) → marks L ≡ 0 → Stops J [] Q.count T (ahead Q) e
+no_begin : {J L : List Sym} {T : List Entry} (Q : Parser) (e : Refusal) → Unbegun Q e → (is_begin (next Q) ≡ false → (s : Listing) → step list J s (next Q) Q.lookahead.place ≡ stuck) → ((s : Listing) → step list J s (start Begin) Q.lookahead.place ≡ go (body L) s) → marks L ≡ 0 → Stops J [] Q.count T (ahead Q) e
 no_begin {L} Q e (another h i) n g m = refused_here Q (n h) i
 no_begin {L} Q e (cut b) n g m = cuts_off Q (start Begin) e (body L) (λ s. s) b g (deep m) refl
 
@@ -86,7 +86,7 @@ pub no_vars : {X : Type 0} (P Q : Parser) (T : List Entry) (r : Result X Refusal
 no_vars P Q T (Ok u) h x = λ L m. reads_on x (λ s. refl) (deep m) refl
 no_vars P Q T (Err w) h x = λ L m. no_begin P w x (λ i s. not_mark Var (next P) (go (a_name [] ∷ L) s) (at_begin list (next P) (go (body L) s)) h ∙ not_begin (next P) (go (body L) s) i) (λ s. refl) m
 
-var : (P : Parser) (L : List Sym) (s : Listing) → is_mark Var (next P) ≡ true → step list (vars ∷ L) s (next P) P.place ≡ go (a_name [] ∷ L) s
+var : (P : Parser) (L : List Sym) (s : Listing) → is_mark Var (next P) ≡ true → step list (vars ∷ L) s (next P) P.lookahead.place ≡ go (a_name [] ∷ L) s
 var P L s h = is_mark_lem Var (next P) (go (a_name [] ∷ L) s) (at_begin list (next P) (go (body L) s)) h
 
 pub some_vars : {X : Type 0} (P A Q : Parser) (T T' : List Entry) (r : Result X Refusal) → is_mark Var (next P) ≡ true → Read P (next P) A → Passes (λ L. a_name [] ∷ L) body A T Q T' r → Passes (λ L. vars ∷ L) body P T Q T' r
@@ -122,13 +122,13 @@ next_declared P Q R T T₁ T₂ u k h l x = record {
   ready = l.0;
   fewer = omega (arith, l.1, k.fewer);
   room = omega (arith, l.2, k.room);
-  is = λ L m. chain (k.is L m) (chain (turns Q (λ s. one_more L s (next Q) Q.place h)) (x L m));
+  is = λ L m. chain (k.is L m) (chain (turns Q (λ s. one_more L s (next Q) Q.lookahead.place h)) (x L m));
 }
 
 module _ {X : Type 0} (O P Q : Parser) (S T T₁ : List Entry) (u : X) (f : Passes {A = X} (λ L. a_name [] ∷ L) (λ L. decls ∷ L) O S P T (Ok u)) (k : Declaring P T Q T₁) where
   pub next_wrong : (R R' : Parser) (T₂ T' : List Entry) (w : Refusal) → is_name (next Q) ≡ true → Passes {A = X} (λ L. a_name [] ∷ L) (λ L. decls ∷ L) Q T₁ R T₂ (Err w) → Passes {A = X} (λ L. a_name [] ∷ L) body O S R' T' (Err w)
-  next_wrong R R' T₂ T' w h x = λ L m. chain_stop (f L m) (chain_stop (k.is L m) (chain_stop (turns Q (λ s. one_more L s (next Q) Q.place h)) (x L m)))
+  next_wrong R R' T₂ T' w h x = λ L m. chain_stop (f L m) (chain_stop (k.is L m) (chain_stop (turns Q (λ s. one_more L s (next Q) Q.lookahead.place h)) (x L m)))
 
   pub list_end : (R : Parser) (r : Result X Refusal) → is_name (next Q) ≡ false → Begun Q R r → Passes (λ L. a_name [] ∷ L) body O S R T₁ r
   list_end R (Ok v) h x = λ L m. chain (f L m) (chain (k.is L m) (reads_on x (λ s. refl) (deep m) refl))
-  list_end R (Err w) h x = λ L m. chain_stop (f L m) (chain_stop (k.is L m) (no_begin Q w x (λ i s. not_name (next Q) (λ n. go (names (record { name = n; place = Q.place } ∷ []) ∷ L) s) (at_begin list (next Q) (go (body L) s)) h ∙ not_begin (next Q) (go (body L) s) i) (λ s. refl) m))
+  list_end R (Err w) h x = λ L m. chain_stop (f L m) (chain_stop (k.is L m) (no_begin Q w x (λ i s. not_name (next Q) (λ n. go (names (record { name = n; place = Q.lookahead.place } ∷ []) ∷ L) s) (at_begin list (next Q) (go (body L) s)) h ∙ not_begin (next Q) (go (body L) s) i) (λ s. refl) m))

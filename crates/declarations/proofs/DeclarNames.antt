@@ -47,11 +47,11 @@ pub stops_any : {f : Feed} {w : Refusal} (J : List Sym) → ((c : ℕ) (T : List
 stops_any J x s = (x (length s.entries) (laid s.entries [])).stops s.loose [] s.entries (refl, refl)
 
 -- one token, and no name
-pub no_names : {J K : List Named → Sym} {P A : Parser} {T : List Entry} (t : Tok) → Read P t A → ((ms : List Named) (L : List Sym) (s : Listing) → step list (J ms ∷ L) s t P.place ≡ go (K ms ∷ L) s) → ((ms : List Named) (L : List Sym) → marks (K ms ∷ L) ≡ marks L) → few t ≡ true → Drafted J K P T [] A T
+pub no_names : {J K : List Named → Sym} {P A : Parser} {T : List Entry} (t : Tok) → Read P t A → ((ms : List Named) (L : List Sym) (s : Listing) → step list (J ms ∷ L) s t P.lookahead.place ≡ go (K ms ∷ L) s) → ((ms : List Named) (L : List Sym) → marks (K ms ∷ L) ≡ marks L) → few t ≡ true → Drafted J K P T [] A T
 no_names {J} {K} {P} {A} {T} t r e k f = record {
   reads = λ ms L m s.
       ap (reading (J ms ∷ L) s) r.token
-      ∙ takes (J ms ∷ L) (K ms ∷ L) s s t P.place (ahead A) (e ms L s) (shallow (k ms L ∙ m)) f
+      ∙ takes (J ms ∷ L) (K ms ∷ L) s s t P.lookahead.place (ahead A) (e ms L s) (shallow (k ms L ∙ m)) f
       ∙ ap (λ x. reading (K x ∷ L) s (ahead A)) (sym (append_nil ms));
   holds = λ was es h. subst (λ x. Holds was x A.count T) (sym (append_nil es)) (subst (λ c. Holds was es c T) (sym r.count) h);
 }
@@ -72,20 +72,20 @@ pub drafted_stop : {J K : List Named → Sym} {P Q : Parser} {T T₁ : List Entr
 drafted_stop {ns} w a b ms L m s = a.reads ms L m s ∙ b (ms ++ ns) L m s
 
 -- a name is listed
-pub one_name : {A : Type 0} (P B Q : Parser) (T T' : List Entry) (x r : ℕ) (u : A) → x < 64 → Read P (name x) B → Listed B T (Decl x Integer) P.place r Q T' → Drafts a_name names P T Q T' (Ok u)
+pub one_name : {A : Type 0} (P B Q : Parser) (T T' : List Entry) (x r : ℕ) (u : A) → x < 64 → Read P (name x) B → Listed B T (Decl x Integer) P.lookahead.place r Q T' → Drafts a_name names P T Q T' (Ok u)
 one_name P B Q T T' x r u h a l =
-    let n : Named = record { name = x; place = P.place } in (
+    let n : Named = record { name = x; place = P.lookahead.place } in (
       n ∷ [],
       record {
         reads = λ ms L m s.
             ap (reading (a_name ms ∷ L) s) a.token
-            ∙ takes (a_name ms ∷ L) (names (ms ++ (n ∷ [])) ∷ L) s s (name x) P.place (ahead B) refl (shallow m) (lt-ltb x 64 h)
+            ∙ takes (a_name ms ∷ L) (names (ms ++ (n ∷ [])) ∷ L) s s (name x) P.lookahead.place (ahead B) refl (shallow m) (lt-ltb x 64 h)
             ∙ ap (reading (names (ms ++ (n ∷ [])) ∷ L) s) (sym l.same);
         holds = λ was es h.
             let old = subst (λ c. Holds was es c T) (sym a.count) h in
-            let new = holds_more was es B.count T (entry (Decl x Integer) P.place) old in
-            let counted = subst (λ c. Holds was (es ++ (entry (Decl x Integer) P.place ∷ [])) c (set T B.count (entry (Decl x Integer) P.place))) (sym l.count) new in
-            subst (λ t. Holds was (es ++ (entry (Decl x Integer) P.place ∷ [])) Q.count t) (sym l.wrote) counted;
+            let new = holds_more was es B.count T (entry (Decl x Integer) P.lookahead.place) old in
+            let counted = subst (λ c. Holds was (es ++ (entry (Decl x Integer) P.lookahead.place ∷ [])) c (set T B.count (entry (Decl x Integer) P.lookahead.place))) (sym l.count) new in
+            subst (λ t. Holds was (es ++ (entry (Decl x Integer) P.lookahead.place ∷ [])) Q.count t) (sym l.wrote) counted;
       },
     )
 
@@ -121,7 +121,7 @@ pub record Naming (P : Parser) (T : List Entry) (Q : Parser) (T' : List Entry) :
 pub naming : (P : Parser) (T : List Entry) → Ready P → Naming P T P T
 naming P T h = record { ready = h; fewer = omega arith; room = omega arith; is = ([], nothing_drafted P T) }
 
-comma : (P : Parser) → is_mark Comma (next P) ≡ true → (ms : List Named) (L : List Sym) (s : Listing) → step list (names ms ∷ L) s (next P) P.place ≡ go (a_name ms ∷ L) s
+comma : (P : Parser) → is_mark Comma (next P) ≡ true → (ms : List Named) (L : List Sym) (s : Listing) → step list (names ms ∷ L) s (next P) P.lookahead.place ≡ go (a_name ms ∷ L) s
 comma P h ms L s = is_mark_lem Comma (next P) (go (a_name ms ∷ L) s) (at_mark list Colon (next P) (go (type ms ∷ L) s) stuck) h
 
 pub next_name : {A : Type 0} (P Q B C : Parser) (T T₁ T₂ : List Entry) (u : A) → Naming P T Q T₁ → is_mark Comma (next Q) ≡ true → Read Q (next Q) B → Used {A = A} B C (Ok u) → Drafts a_name names B T₁ C T₂ (Ok u) → Naming P T C T₂

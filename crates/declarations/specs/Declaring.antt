@@ -42,7 +42,7 @@ is_type unused = false
 
 -- a type was expected
 pub data Untyped (p : Parser) (e : Refusal) : Type 0 where
-  another : is_type (next p) ≡ false → e ≡ refuses Grammar p.place → Untyped p e
+  another : is_type (next p) ≡ false → e ≡ refuses Grammar p.lookahead.place → Untyped p e
   cut : (y : SimpleType) → Broken p (ty y) e → Untyped p e
 
 abbrev pub Typed : Parser → Parser → Result SimpleType Refusal → Type 0
@@ -66,7 +66,7 @@ is_begin unused = false
 
 -- begin was expected
 pub data Unbegun (p : Parser) (e : Refusal) : Type 0 where
-  another : is_begin (next p) ≡ false → e ≡ refuses Grammar p.place → Unbegun p e
+  another : is_begin (next p) ≡ false → e ≡ refuses Grammar p.lookahead.place → Unbegun p e
   cut : Broken p (start Begin) e → Unbegun p e
 
 abbrev pub Begun : {A : Type 0} → Parser → Parser → Result A Refusal → Type 0

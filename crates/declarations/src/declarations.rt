@@ -42,7 +42,7 @@ fn declaration_list(parser: &mut Parser<'_>, table: &mut [Entry]) -> Result<(), 
     ensures is { Passes (λ L. a_name [] ∷ L) body parser.old table.old parser.new table.new result }
 {
     declaration(parser, table)?;
-    while let Token::Name(_) = parser.token {
+    while let Token::Name(_) = parser.lookahead.token {
         declaration(parser, table)?;
     }
     begin(parser)
@@ -81,7 +81,7 @@ fn declared_name(parser: &mut Parser<'_>, table: &mut [Entry]) -> Result<(), Ref
     ensures less { Used parser.old parser.new result }
     ensures is { Drafts a_name names parser.old table.old parser.new table.new result }
 {
-    let place = parser.place;
+    let place = parser.lookahead.place;
     let name = parser.name()?;
     parser.emit(table, Node::Decl(name, SimpleType::Integer), place);
     Ok(())
@@ -92,7 +92,7 @@ fn type_name(parser: &mut Parser<'_>) -> Result<SimpleType, Refusal>
     requires { Ready parser.old }
     ensures { Typed parser.old parser.new result }
 {
-    match parser.token {
+    match parser.lookahead.token {
         Token::TypeName(typ) => {
             parser.advance()?;
             Ok(typ)
@@ -105,7 +105,7 @@ fn begin(parser: &mut Parser<'_>) -> Result<(), Refusal>
     requires { Ready parser.old }
     ensures { Begun parser.old parser.new result }
 {
-    match parser.token {
+    match parser.lookahead.token {
         Token::Start(Start::Begin) => parser.advance(),
         _ => Err(parser.refuse(Question::Grammar)),
     }

@@ -22,11 +22,11 @@ use Rattle.parser.specs.Parsing.{reading, Goes, Stops, Parsed}
 use Rattle.parser.proofs.Chains.{chain, chain_stop, above, above_stop, moves, from_feed, from_count, stop_feed, reads, breaks, lists}
 
 -- the next token is read
-pub read_token : {J K : List Sym} {U : List ℕ} {T : List Entry} {p q : Parser} {t : Tok} → Read p t q → ((s : Listing) → step list J s t p.place ≡ go K s) → marks K ≤ 32 → few t ≡ true → Goes J U p.count T (ahead p) K U q.count T (ahead q)
+pub read_token : {J K : List Sym} {U : List ℕ} {T : List Entry} {p q : Parser} {t : Tok} → Read p t q → ((s : Listing) → step list J s t p.lookahead.place ≡ go K s) → marks K ≤ 32 → few t ≡ true → Goes J U p.count T (ahead p) K U q.count T (ahead q)
 read_token r e m k = from_feed r.token (from_count (sym r.count) (reads e m k))
 
 -- the next token is read, and what follows it is refused
-pub read_broken : {J K : List Sym} {U : List ℕ} {T : List Entry} {t : Tok} {r : Refusal} (p : Parser) → Broken p t r → ((s : Listing) → step list J s t p.place ≡ go K s) → marks K ≤ 32 → few t ≡ true → Stops J U p.count T (ahead p) r
+pub read_broken : {J K : List Sym} {U : List ℕ} {T : List Entry} {t : Tok} {r : Refusal} (p : Parser) → Broken p t r → ((s : Listing) → step list J s t p.lookahead.place ≡ go K s) → marks K ≤ 32 → few t ≡ true → Stops J U p.count T (ahead p) r
 read_broken {r} p b e m k = stop_feed b (chain_stop (reads e m k) (breaks r))
 
 -- the rest X of a list of operands Y, whose operators are those that view sees
@@ -99,38 +99,38 @@ relations = record {
 
 -- the feed after the next token, whatever that is
 abbrev pub behind : Parser → Feed
-behind p = feed (learns (known_of p.names) (meant p.token)) (cond (is_stop (meant p.token)) over (limited (scan p.after p.rest.now)))
+behind p = feed (learns (known_of p.names) (meant p.lookahead.token)) (cond (is_stop (meant p.lookahead.token)) over (limited (scan p.lookahead.end.place p.lookahead.end.rest.now)))
 
 -- two stacks that do the same at the next token
-pub alike : {J K : List Sym} {U : List ℕ} {c : ℕ} {T : List Entry} (p : Parser) → ((s : Listing) → step list J s (next p) p.place ≡ step list K s (next p) p.place) → Goes J U c T (ahead p) K U c T (ahead p)
-alike p e = moves (λ s. ap (λ m. after list (limits (behind p).ending) (at (next p) p.place) (behind p).tokens m (λ K' s'. reading K' s' (behind p))) (e s))
+pub alike : {J K : List Sym} {U : List ℕ} {c : ℕ} {T : List Entry} (p : Parser) → ((s : Listing) → step list J s (next p) p.lookahead.place ≡ step list K s (next p) p.lookahead.place) → Goes J U c T (ahead p) K U c T (ahead p)
+alike p e = moves (λ s. ap (λ m. after list (limits (behind p).ending) (at (next p) p.lookahead.place) (behind p).tokens m (λ K' s'. reading K' s' (behind p))) (e s))
 
 module _ {X Y : Sym} {O : Type 0} {view : Tok → Seen O} {means : O → Binary} {then : List Sym → List Sym} (v : Level X Y O view means then) where
   module _ (d : ℕ) (le : d ≤ 32) (a : ℕ) (p : Parser) (T : List Entry) (o : O) (seen : view (next p) ≡ yes o) (L : List Sym) (mk : marks L ≡ d) where
     abbrev act : Act
-    act = a_bin p.place (means o)
+    act = a_bin p.lookahead.place (means o)
 
     low : marks (Y ∷ does act ∷ then L) ≤ 32
     low = subst (λ n. n ≤ 32) (sym (v.flat L act ∙ mk)) le
 
     -- an operator, its right operand, and the node of both
-    pub operated : {b r : ℕ} {q e z : Parser} {T' T'' : List Entry} → Read p (next p) q → Parsed Y d q T e T' (Ok b) → Listed e T' (Bin a (means o) b) p.place r z T'' →
+    pub operated : {b r : ℕ} {q e z : Parser} {T' T'' : List Entry} → Read p (next p) q → Parsed Y d q T e T' (Ok b) → Listed e T' (Bin a (means o) b) p.lookahead.place r z T'' →
         Goes (X ∷ L) (a ∷ []) p.count T (ahead p) (then L) (r ∷ []) z.count T'' (ahead z)
     operated rd f l =
-        chain (read_token rd (λ s. v.enters L s (next p) p.place o seen) low (v.small (next p) o seen))
+        chain (read_token rd (λ s. v.enters L s (next p) p.lookahead.place o seen) low (v.small (next p) o seen))
         (chain (above (a ∷ []) (f (does act ∷ then L) (v.rest L act ∙ mk)))
         (lists act (λ V es. refl) l))
 
     -- the operator is read, and what follows is refused
     pub operator_broken : {r : Refusal} → Broken p (next p) r → Stops (X ∷ L) (a ∷ []) p.count T (ahead p) r
-    operator_broken b = read_broken p b (λ s. v.enters L s (next p) p.place o seen) low (v.small (next p) o seen)
+    operator_broken b = read_broken p b (λ s. v.enters L s (next p) p.lookahead.place o seen) low (v.small (next p) o seen)
 
     -- the right operand is refused
     pub operand_refused : {r : Refusal} {q : Parser} → Read p (next p) q → ((J : List Sym) → marks J ≡ d → Stops (Y ∷ J) [] q.count T (ahead q) r) → Stops (X ∷ L) (a ∷ []) p.count T (ahead p) r
     operand_refused rd f =
-        chain_stop (read_token rd (λ s. v.enters L s (next p) p.place o seen) low (v.small (next p) o seen))
+        chain_stop (read_token rd (λ s. v.enters L s (next p) p.lookahead.place o seen) low (v.small (next p) o seen))
         (above_stop (a ∷ []) (f (does act ∷ then L) (v.rest L act ∙ mk)))
 
   -- no operator follows
   pub passed : {U : List ℕ} {c : ℕ} {T : List Entry} (p : Parser) (L : List Sym) → view (next p) ≡ no → Goes (X ∷ L) U c T (ahead p) L U c T (ahead p)
-  passed p L unseen = alike p (λ s. v.passes L s (next p) p.place unseen)
+  passed p L unseen = alike p (λ s. v.passes L s (next p) p.lookahead.place unseen)

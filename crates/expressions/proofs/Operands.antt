@@ -60,7 +60,7 @@ module _ {S X Y : Sym} {O : Type 0} {view : Tok → Seen O} {means : O → Binar
   pub loop_refused : (x : O) (z y : Parser) (T2 : List Entry) (r : Refusal) → view (next q) ≡ yes x → Read q (next q) z → Parsed Y d z T1 y T2 (Err r) → Parsed S d p T y T2 (Err r)
   loop_refused x z y T2 r seen rd f = λ L mk. chain_stop (o L mk) (chain_stop (k.is L mk) (operand_refused v d le a q T1 x seen L mk rd f))
 
-pub loop_again : {X Y : Sym} {O : Type 0} {view : Tok → Seen O} {means : O → Binary} (v : Level X Y O view means (λ L. X ∷ L)) (d : ℕ) → d ≤ 32 → (a0 a b r : ℕ) (p0 p q e z : Parser) (T0 T T' T'' : List Entry) (x : O) → Looped X d a0 p0 T0 a p T → view (next p) ≡ yes x → Read p (next p) q → Parsed Y d q T e T' (Ok b) → Listed e T' (Bin a (means x) b) p.place r z T'' →
+pub loop_again : {X Y : Sym} {O : Type 0} {view : Tok → Seen O} {means : O → Binary} (v : Level X Y O view means (λ L. X ∷ L)) (d : ℕ) → d ≤ 32 → (a0 a b r : ℕ) (p0 p q e z : Parser) (T0 T T' T'' : List Entry) (x : O) → Looped X d a0 p0 T0 a p T → view (next p) ≡ yes x → Read p (next p) q → Parsed Y d q T e T' (Ok b) → Listed e T' (Bin a (means x) b) p.lookahead.place r z T'' →
     (L : List Sym) → marks L ≡ d → Goes (X ∷ L) (a0 ∷ []) p0.count T0 (ahead p0) (X ∷ L) (r ∷ []) z.count T'' (ahead z)
 loop_again v d le a0 a b r p0 p q e z T0 T T' T'' x k seen rd f l L mk = chain (k.is L mk) (operated v d le a p T x seen L mk rd f l)
 
@@ -84,18 +84,18 @@ minus_next (mark x) e = absurd (let z : ◌≡◌ {A = ℕ} 0 1 = cc in omega ar
 minus_next else' e = absurd (let z : ◌≡◌ {A = ℕ} 0 1 = cc in omega arith)
 minus_next unused e = absurd (let z : ◌≡◌ {A = ℕ} 0 1 = cc in omega arith)
 
-pub minus_ok : (d n r : ℕ) → d ≤ 32 → (p q e z : Parser) (T T' T'' : List Entry) → is_minus (next p) ≡ true → Read p (next p) q → Parsed term d q T e T' (Ok n) → Listed e T' (Uny unary.Negate n) p.place r z T'' → Takes (λ L. simple ∷ L) (λ L. simples ∷ L) d p T z T'' (Ok r)
+pub minus_ok : (d n r : ℕ) → d ≤ 32 → (p q e z : Parser) (T T' T'' : List Entry) → is_minus (next p) ≡ true → Read p (next p) q → Parsed term d q T e T' (Ok n) → Listed e T' (Uny unary.Negate n) p.lookahead.place r z T'' → Takes (λ L. simple ∷ L) (λ L. simples ∷ L) d p T z T'' (Ok r)
 minus_ok d n r le p q e z T T' T'' m rd f l = λ L mk.
     chain (read_token (subst (λ t. Read p t q) (minus_next (next p) m) rd) (λ s. refl) (subst (λ k. k ≤ 32) (sym mk) le) refl)
-    (chain (f (does (a_uny p.place unary.Negate) ∷ simples ∷ L) mk) (lists (a_uny p.place unary.Negate) (λ V es. refl) l))
+    (chain (f (does (a_uny p.lookahead.place unary.Negate) ∷ simples ∷ L) mk) (lists (a_uny p.lookahead.place unary.Negate) (λ V es. refl) l))
 
 pub minus_broken : (d : ℕ) → d ≤ 32 → (p z : Parser) (T T'' : List Entry) (r : Refusal) → is_minus (next p) ≡ true → Broken p (next p) r → Takes (λ L. simple ∷ L) (λ L. simples ∷ L) d p T z T'' (Err r)
-minus_broken d le p z T T'' r m b = λ L mk. read_broken {K = term ∷ does (a_uny p.place unary.Negate) ∷ simples ∷ L} p (subst (λ t. Broken p t r) (minus_next (next p) m) b) (λ s. refl) (subst (λ k. k ≤ 32) (sym mk) le) refl
+minus_broken d le p z T T'' r m b = λ L mk. read_broken {K = term ∷ does (a_uny p.lookahead.place unary.Negate) ∷ simples ∷ L} p (subst (λ t. Broken p t r) (minus_next (next p) m) b) (λ s. refl) (subst (λ k. k ≤ 32) (sym mk) le) refl
 
 pub minus_refused : (d : ℕ) → d ≤ 32 → (p q z : Parser) (T T'' : List Entry) (r : Refusal) → is_minus (next p) ≡ true → Read p (next p) q → Parsed term d q T z T'' (Err r) → Takes (λ L. simple ∷ L) (λ L. simples ∷ L) d p T z T'' (Err r)
 minus_refused d le p q z T T'' r m rd f = λ L mk.
     chain_stop (read_token (subst (λ t. Read p t q) (minus_next (next p) m) rd) (λ s. refl) (subst (λ k. k ≤ 32) (sym mk) le) refl)
-    (f (does (a_uny p.place unary.Negate) ∷ simples ∷ L) mk)
+    (f (does (a_uny p.lookahead.place unary.Negate) ∷ simples ∷ L) mk)
 
 -- without a minus, a simple expression begins with a term
 no_minus : (t : Tok) → is_minus t ≡ false → (L : List Sym) (s : Listing) (p : ℕ) → step list (simple ∷ L) s t p ≡ step list (term ∷ simples ∷ L) s t p
@@ -114,13 +114,13 @@ no_minus else' h L s p = refl
 no_minus unused h L s p = refl
 
 no_minus_ok : (d n : ℕ) (p z : Parser) (T T'' : List Entry) → is_minus (next p) ≡ false → Parsed term d p T z T'' (Ok n) → Takes (λ L. simple ∷ L) (λ L. simples ∷ L) d p T z T'' (Ok n)
-no_minus_ok d n p z T T'' h f = λ L mk. chain (alike p (λ s. no_minus (next p) h L s p.place)) (f (simples ∷ L) mk)
+no_minus_ok d n p z T T'' h f = λ L mk. chain (alike p (λ s. no_minus (next p) h L s p.lookahead.place)) (f (simples ∷ L) mk)
 
 no_minus_refused : (d : ℕ) (p z : Parser) (T T'' : List Entry) (r : Refusal) → is_minus (next p) ≡ false → Parsed term d p T z T'' (Err r) → Takes (λ L. simple ∷ L) (λ L. simples ∷ L) d p T z T'' (Err r)
-no_minus_refused d p z T T'' r h f = λ L mk. chain_stop (alike p (λ s. no_minus (next p) h L s p.place)) (f (simples ∷ L) mk)
+no_minus_refused d p z T T'' r h f = λ L mk. chain_stop (alike p (λ s. no_minus (next p) h L s p.lookahead.place)) (f (simples ∷ L) mk)
 
 -- the next token, where it is known as it is written
-pub next_is : (p : Parser) (t : Tok) → meant p.token ≡ other t → next p ≡ t
+pub next_is : (p : Parser) (t : Tok) → meant p.lookahead.token ≡ other t → next p ≡ t
 next_is p t e = ap (tok (known_of p.names)) e
 
 -- a mark that was expected is missing
@@ -135,22 +135,22 @@ mark_missed m (ty x) h L s p = refl
 mark_missed m else' h L s p = refl
 mark_missed m unused h L s p = refl
 
-pub missed : {U : List ℕ} {T : List Entry} (m : Mark) (p : Parser) (e : Refusal) (L : List Sym) → marks L ≤ 32 → ((s : Listing) → step list (is m ∷ L) s (mark m) p.place ≡ go L s) → Missed m p e → Stops (is m ∷ L) U p.count T (ahead p) e
-missed {U} {T} m p e L le st (another h q) = subst (λ r. Stops (is m ∷ L) U p.count T (ahead p) r) (sym q) (stucks (λ s. mark_missed m (next p) h L s p.place))
+pub missed : {U : List ℕ} {T : List Entry} (m : Mark) (p : Parser) (e : Refusal) (L : List Sym) → marks L ≤ 32 → ((s : Listing) → step list (is m ∷ L) s (mark m) p.lookahead.place ≡ go L s) → Missed m p e → Stops (is m ∷ L) U p.count T (ahead p) e
+missed {U} {T} m p e L le st (another h q) = subst (λ r. Stops (is m ∷ L) U p.count T (ahead p) r) (sym q) (stucks (λ s. mark_missed m (next p) h L s p.lookahead.place))
 missed m p e L le st (cut b) = read_broken p b st le refl
 
 -- an opened factor: after the opener the stack K is expected, one deeper
-module _ (x : Prefix) (K : ℕ → List Sym → List Sym) (st : (L : List Sym) (s : Listing) (p : ℕ) → step list (factor ∷ L) s (pre x) p ≡ go (K p L) s) (deep : (L : List Sym) (p : ℕ) → marks (K p L) ≡ suc (marks L)) (d : ℕ) (p : Parser) (h : meant p.token ≡ other (pre x)) where
-  pub opener : {q : Parser} {T : List Entry} → d < 32 → Read p (next p) q → (L : List Sym) → marks L ≡ d → Goes (factor ∷ L) [] p.count T (ahead p) (K p.place L) [] q.count T (ahead q)
-  opener {q} lt rd L mk = read_token (subst (λ t. Read p t q) (next_is p (pre x) h) rd) (λ s. st L s p.place) (omega (arith, deep L p.place, mk)) refl
+module _ (x : Prefix) (K : ℕ → List Sym → List Sym) (st : (L : List Sym) (s : Listing) (p : ℕ) → step list (factor ∷ L) s (pre x) p ≡ go (K p L) s) (deep : (L : List Sym) (p : ℕ) → marks (K p L) ≡ suc (marks L)) (d : ℕ) (p : Parser) (h : meant p.lookahead.token ≡ other (pre x)) where
+  pub opener : {q : Parser} {T : List Entry} → d < 32 → Read p (next p) q → (L : List Sym) → marks L ≡ d → Goes (factor ∷ L) [] p.count T (ahead p) (K p.lookahead.place L) [] q.count T (ahead q)
+  opener {q} lt rd L mk = read_token (subst (λ t. Read p t q) (next_is p (pre x) h) rd) (λ s. st L s p.lookahead.place) (omega (arith, deep L p.lookahead.place, mk)) refl
 
-  pub opener_deep : (z : Parser) (T T' : List Entry) (e : Refusal) → 32 ≤ d → e ≡ refuses Depth p.place → Parsed factor d p T z T' (Err e)
+  pub opener_deep : (z : Parser) (T T' : List Entry) (e : Refusal) → 32 ≤ d → e ≡ refuses Depth p.lookahead.place → Parsed factor d p T z T' (Err e)
   opener_deep z T T' e le q = λ L mk.
       subst (λ r. Stops (factor ∷ L) [] p.count T (ahead p) r) (sym q)
-      (stop_feed (ap (λ t. more (at t p.place) (behind p)) (next_is p (pre x) h)) (too_deep (K p.place L) (λ s. st L s p.place) (omega (arith, deep L p.place, mk))))
+      (stop_feed (ap (λ t. more (at t p.lookahead.place) (behind p)) (next_is p (pre x) h)) (too_deep (K p.lookahead.place L) (λ s. st L s p.lookahead.place) (omega (arith, deep L p.lookahead.place, mk))))
 
   pub opener_broken : (z : Parser) (T T' : List Entry) (e : Refusal) → d < 32 → Broken p (next p) e → Parsed factor d p T z T' (Err e)
-  opener_broken z T T' e lt b = λ L mk. read_broken {K = K p.place L} p (subst (λ t. Broken p t e) (next_is p (pre x) h) b) (λ s. st L s p.place) (omega (arith, deep L p.place, mk)) refl
+  opener_broken z T T' e lt b = λ L mk. read_broken {K = K p.lookahead.place L} p (subst (λ t. Broken p t e) (next_is p (pre x) h) b) (λ s. st L s p.lookahead.place) (omega (arith, deep L p.lookahead.place, mk)) refl
 
 -- what the three openers expect
 abbrev pub in_bracket : ℕ → List Sym → List Sym
@@ -166,8 +166,8 @@ inner : (d i : ℕ) (L : List Sym) → i ≡ d + 1 → marks L ≡ d → suc (ma
 inner d i L e mk = omega (arith, e, mk)
 
 module _ (d i : ℕ) (p q : Parser) (T : List Entry) (deeper : i ≡ d + 1) (lt : d < 32) (rd : Read p (next p) q) where
-  module _ (h : meant p.token ≡ other (pre Open)) where
-    bracket_opens : (L : List Sym) → marks L ≡ d → Goes (factor ∷ L) [] p.count T (ahead p) (in_bracket p.place L) [] q.count T (ahead q)
+  module _ (h : meant p.lookahead.token ≡ other (pre Open)) where
+    bracket_opens : (L : List Sym) → marks L ≡ d → Goes (factor ∷ L) [] p.count T (ahead p) (in_bracket p.lookahead.place L) [] q.count T (ahead q)
     bracket_opens = opener Open in_bracket (λ L s n. refl) (λ L n. refl) d p h lt rd
 
     pub bracket_refused : (z : Parser) (T' : List Entry) (e : Refusal) → Parsed expr i q T z T' (Err e) → Parsed factor d p T z T' (Err e)
@@ -179,15 +179,15 @@ module _ (d i : ℕ) (p q : Parser) (T : List Entry) (deeper : i ≡ d + 1) (lt 
     pub bracket_ok : (n : ℕ) (y z : Parser) (T' : List Entry) → Parsed expr i q T y T' (Ok n) → Read y (mark Close) z → Parsed factor d p T z T' (Ok n)
     bracket_ok n y z T' f c = λ L mk. chain (bracket_opens L mk) (chain (f (is Close ∷ leave ∷ L) (inner d i L deeper mk)) (chain (read_token c (λ s. refl) (omega (arith, mk)) refl) leaves))
 
-  module _ (h : meant p.token ≡ other (pre Not)) where
-    not_opens : (L : List Sym) → marks L ≡ d → Goes (factor ∷ L) [] p.count T (ahead p) (in_not p.place L) [] q.count T (ahead q)
+  module _ (h : meant p.lookahead.token ≡ other (pre Not)) where
+    not_opens : (L : List Sym) → marks L ≡ d → Goes (factor ∷ L) [] p.count T (ahead p) (in_not p.lookahead.place L) [] q.count T (ahead q)
     not_opens = opener Not in_not (λ L s n. refl) (λ L n. refl) d p h lt rd
 
     pub not_refused : (z : Parser) (T' : List Entry) (e : Refusal) → Parsed factor i q T z T' (Err e) → Parsed factor d p T z T' (Err e)
-    not_refused z T' e f = λ L mk. chain_stop (not_opens L mk) (f (does (a_uny p.place unary.Not) ∷ leave ∷ L) (inner d i L deeper mk))
+    not_refused z T' e f = λ L mk. chain_stop (not_opens L mk) (f (does (a_uny p.lookahead.place unary.Not) ∷ leave ∷ L) (inner d i L deeper mk))
 
-    pub not_ok : (n r : ℕ) (y z : Parser) (T' T'' : List Entry) → Parsed factor i q T y T' (Ok n) → Listed y T' (Uny unary.Not n) p.place r z T'' → Parsed factor d p T z T'' (Ok r)
-    not_ok n r y z T' T'' f l = λ L mk. chain (not_opens L mk) (chain (f (does (a_uny p.place unary.Not) ∷ leave ∷ L) (inner d i L deeper mk)) (chain (lists (a_uny p.place unary.Not) (λ V es. refl) l) leaves))
+    pub not_ok : (n r : ℕ) (y z : Parser) (T' T'' : List Entry) → Parsed factor i q T y T' (Ok n) → Listed y T' (Uny unary.Not n) p.lookahead.place r z T'' → Parsed factor d p T z T'' (Ok r)
+    not_ok n r y z T' T'' f l = λ L mk. chain (not_opens L mk) (chain (f (does (a_uny p.lookahead.place unary.Not) ∷ leave ∷ L) (inner d i L deeper mk)) (chain (lists (a_uny p.lookahead.place unary.Not) (λ V es. refl) l) leaves))
 
 -- an opening bracket that is expected
 pub open_missed : (t : Tok) → adv.is_open t ≡ false → (L : List Sym) (s : Listing) (p : ℕ) → step list (is_open ∷ L) s t p ≡ stuck
@@ -204,13 +204,13 @@ open_missed else' h L s p = refl
 open_missed unused h L s p = refl
 
 pub unopened : {U : List ℕ} {T : List Entry} (p : Parser) (e : Refusal) (L : List Sym) → marks L ≤ 32 → Closed p e → Stops (is_open ∷ L) U p.count T (ahead p) e
-unopened {U} {T} p e L le (adv.Closed.another h q) = subst (λ r. Stops (is_open ∷ L) U p.count T (ahead p) r) (sym q) (stucks (λ s. open_missed (next p) h L s p.place))
+unopened {U} {T} p e L le (adv.Closed.another h q) = subst (λ r. Stops (is_open ∷ L) U p.count T (ahead p) r) (sym q) (stucks (λ s. open_missed (next p) h L s p.lookahead.place))
 unopened p e L le (adv.Closed.cut b) = read_broken p b (λ s. refl) le refl
 
 -- round ( factor / factor )
-module _ (d i : ℕ) (p q : Parser) (T : List Entry) (deeper : i ≡ d + 1) (lt : d < 32) (rd : Read p (next p) q) (h : meant p.token ≡ other (pre Round)) where
+module _ (d i : ℕ) (p q : Parser) (T : List Entry) (deeper : i ≡ d + 1) (lt : d < 32) (rd : Read p (next p) q) (h : meant p.lookahead.token ≡ other (pre Round)) where
   abbrev rest4 : List Sym → List Sym
-  rest4 L = does (a_bin p.place binary.Round) ∷ leave ∷ L
+  rest4 L = does (a_bin p.lookahead.place binary.Round) ∷ leave ∷ L
 
   abbrev rest3 : List Sym → List Sym
   rest3 L = is Close ∷ rest4 L
@@ -252,8 +252,8 @@ module _ (d i : ℕ) (p q : Parser) (T : List Entry) (deeper : i ≡ d + 1) (lt 
           pub close_missed : (z : Parser) (T' : List Entry) (e : Refusal) → Missed Close x e → Parsed factor d p T z T' (Err e)
           close_missed z T' e m = λ L mk. chain_stop (round_close L mk) (missed Close x e (rest4 L) (omega (arith, mk)) (λ s. refl) m)
 
-          pub round_ok : (r : ℕ) (c z : Parser) (T' : List Entry) → Read x (mark Close) c → Listed c T2 (Bin a binary.Round b) p.place r z T' → Parsed factor d p T z T' (Ok r)
-          round_ok r c z T' closed l = λ L mk. chain (round_close L mk) (chain (read_token closed (λ s. refl) (omega (arith, mk)) refl) (chain (lists (a_bin p.place binary.Round) (λ V es. refl) l) leaves))
+          pub round_ok : (r : ℕ) (c z : Parser) (T' : List Entry) → Read x (mark Close) c → Listed c T2 (Bin a binary.Round b) p.lookahead.place r z T' → Parsed factor d p T z T' (Ok r)
+          round_ok r c z T' closed l = λ L mk. chain (round_close L mk) (chain (read_token closed (λ s. refl) (omega (arith, mk)) refl) (chain (lists (a_bin p.lookahead.place binary.Round) (λ V es. refl) l) leaves))
 
 -- either way, without a minus
 pub no_minus_either : (d : ℕ) (p z : Parser) (T T'' : List Entry) (r : Result ℕ Refusal) → is_minus (next p) ≡ false → Parsed term d p T z T'' r → Takes (λ L. simple ∷ L) (λ L. simples ∷ L) d p T z T'' r
@@ -265,23 +265,23 @@ leaf : {U : List ℕ} {c : ℕ} {T : List Entry} (L : List Sym) (t : Tok) (p : �
 leaf L t p a g e m k = moves (λ s. takes (factor ∷ L) L s (list a s) t p g (e s) m k ∙ sym (doing a L s g.tokens g.ending))
 
 -- a constant, or a variable
-pub constant_ok : (v : Value) (d r : ℕ) → d ≤ 32 → (p q z : Parser) (T T' : List Entry) → next p ≡ lit v → Read p (next p) q → Listed q T (Const v) p.place r z T' → Parsed factor d p T z T' (Ok r)
+pub constant_ok : (v : Value) (d r : ℕ) → d ≤ 32 → (p q z : Parser) (T T' : List Entry) → next p ≡ lit v → Read p (next p) q → Listed q T (Const v) p.lookahead.place r z T' → Parsed factor d p T z T' (Ok r)
 constant_ok v d r le p q z T T' h rd l = λ L mk.
-    chain (from_feed (rd.token ∙ ap (λ t. more (at t p.place) (ahead q)) h) (from_count (sym rd.count) (leaf L (lit v) p.place (a_const p.place v) (ahead q) (λ s. refl) (subst (λ k. k ≤ 32) (sym mk) le) refl)))
-    (lists (a_const p.place v) (λ V es. refl) l)
+    chain (from_feed (rd.token ∙ ap (λ t. more (at t p.lookahead.place) (ahead q)) h) (from_count (sym rd.count) (leaf L (lit v) p.lookahead.place (a_const p.lookahead.place v) (ahead q) (λ s. refl) (subst (λ k. k ≤ 32) (sym mk) le) refl)))
+    (lists (a_const p.lookahead.place v) (λ V es. refl) l)
 
 pub constant_broken : (v : Value) (d : ℕ) → d ≤ 32 → (p z : Parser) (T T' : List Entry) (e : Refusal) → next p ≡ lit v → Broken p (next p) e → Parsed factor d p T z T' (Err e)
 constant_broken v d le p z T T' e h b = λ L mk.
-    stop_feed (b ∙ ap (λ t. more (at t p.place) (adv.broken e)) h) (chain_stop (leaf L (lit v) p.place (a_const p.place v) (adv.broken e) (λ s. refl) (subst (λ k. k ≤ 32) (sym mk) le) refl) (breaks e))
+    stop_feed (b ∙ ap (λ t. more (at t p.lookahead.place) (adv.broken e)) h) (chain_stop (leaf L (lit v) p.lookahead.place (a_const p.lookahead.place v) (adv.broken e) (λ s. refl) (subst (λ k. k ≤ 32) (sym mk) le) refl) (breaks e))
 
-pub variable_ok : (n d r : ℕ) → d ≤ 32 → n < 64 → (p q z : Parser) (T T' : List Entry) → Read p (name n) q → Listed q T (Var n) p.place r z T' → Parsed factor d p T z T' (Ok r)
+pub variable_ok : (n d r : ℕ) → d ≤ 32 → n < 64 → (p q z : Parser) (T T' : List Entry) → Read p (name n) q → Listed q T (Var n) p.lookahead.place r z T' → Parsed factor d p T z T' (Ok r)
 variable_ok n d r le lt p q z T T' rd l = λ L mk.
-    chain (from_feed rd.token (from_count (sym rd.count) (leaf L (name n) p.place (a_var p.place n) (ahead q) (λ s. refl) (subst (λ k. k ≤ 32) (sym mk) le) (lt-ltb n 64 lt))))
-    (lists (a_var p.place n) (λ V es. refl) l)
+    chain (from_feed rd.token (from_count (sym rd.count) (leaf L (name n) p.lookahead.place (a_var p.lookahead.place n) (ahead q) (λ s. refl) (subst (λ k. k ≤ 32) (sym mk) le) (lt-ltb n 64 lt))))
+    (lists (a_var p.lookahead.place n) (λ V es. refl) l)
 
 pub variable_refused : (d : ℕ) → d ≤ 32 → (p z : Parser) (T T' : List Entry) (e : Refusal) → is_name (next p) ≡ true → Nameless p e → Parsed factor d p T z T' (Err e)
 variable_refused d le p z T T' e h (adv.Nameless.another k q) = absurd (let z : true ≡ false = sym h ∙ k in let y : ◌≡◌ {A = ℕ} 0 1 = cc in omega arith)
 variable_refused d le p z T T' e h (adv.Nameless.many m k f a q) = λ L mk.
-    subst (λ r. Stops (factor ∷ L) [] p.count T (ahead p) r) (sym q) (stop_feed a (too_many L (λ s. list (a_var p.place m) s) (λ s. refl) (subst (λ k. k ≤ 32) (sym mk) le) k))
+    subst (λ r. Stops (factor ∷ L) [] p.count T (ahead p) r) (sym q) (stop_feed a (too_many L (λ s. list (a_var p.lookahead.place m) s) (λ s. refl) (subst (λ k. k ≤ 32) (sym mk) le) k))
 variable_refused d le p z T T' e h (adv.Nameless.cut m lt b) = λ L mk.
-    stop_feed b (chain_stop (leaf L (name m) p.place (a_var p.place m) (adv.broken e) (λ s. refl) (subst (λ k. k ≤ 32) (sym mk) le) (lt-ltb m 64 lt)) (breaks e))
+    stop_feed b (chain_stop (leaf L (name m) p.lookahead.place (a_var p.lookahead.place m) (adv.broken e) (λ s. refl) (subst (λ k. k ≤ 32) (sym mk) le) (lt-ltb m 64 lt)) (breaks e))

@@ -10,19 +10,20 @@ ghost use Rattle.parser.specs.Parsing.{Parsed, Takes, Less};
 use crate::leaves::{adding, constant, is_minus, multiplying, number, relation, variable};
 use grammar::symbols::{Mark, Prefix};
 use lexer::token::{Question, Refusal, Token};
+use parser::depth::Depth;
 use parser::parser::Parser;
 use tosca::operators::{Binary, Unary, Value};
 use tosca::table::{Entry, Node};
 
 // simple [(= | < | >) simple]
 #[cycle(bracketed_expr_factor_first_term_negated_next_term_rounded_simple_term)]
-pub fn expr(parser: &mut Parser<'_>, table: &mut [Entry], depth: usize) -> Result<u16, Refusal>
-    requires { (Ready parser.old) × (depth ≤ 32) }
+pub fn expr(parser: &mut Parser<'_>, table: &mut [Entry], depth: Depth) -> Result<u16, Refusal>
+    requires { Ready parser.old }
     ensures less { Less 0 parser.old parser.new result }
-    ensures is { Parsed expr depth parser.old table.old parser.new table.new result }
+    ensures is { Parsed expr depth.level parser.old table.old parser.new table.new result }
 {
     let left = simple(parser, table, depth)?;
-    let place = parser.place;
+    let place = parser.lookahead.place;
     match relation(parser) {
         None => Ok(left),
         Some(op) => {
@@ -35,14 +36,14 @@ pub fn expr(parser: &mut Parser<'_>, table: &mut [Entry], depth: usize) -> Resul
 
 // [-] term {(+ | - | or) term}
 #[cycle(bracketed_expr_factor_first_term_negated_next_term_rounded_simple_term)]
-fn simple(parser: &mut Parser<'_>, table: &mut [Entry], depth: usize) -> Result<u16, Refusal>
-    requires { (Ready parser.old) × (depth ≤ 32) }
+fn simple(parser: &mut Parser<'_>, table: &mut [Entry], depth: Depth) -> Result<u16, Refusal>
+    requires { Ready parser.old }
     ensures less { Less 0 parser.old parser.new result }
-    ensures is { Parsed simple depth parser.old table.old parser.new table.new result }
+    ensures is { Parsed simple depth.level parser.old table.old parser.new table.new result }
 {
     let mut left = first_term(parser, table, depth)?;
     while let Some(op) = adding(parser) {
-        let place = parser.place;
+        let place = parser.lookahead.place;
         parser.advance()?;
         let right = next_term(parser, table, depth)?;
         left = parser.emit(table, Node::Bin(left, op.operator(), right), place);
@@ -52,15 +53,15 @@ fn simple(parser: &mut Parser<'_>, table: &mut [Entry], depth: usize) -> Result<
 
 // [-] term: the minus takes the whole term
 #[cycle(bracketed_expr_factor_first_term_negated_next_term_rounded_simple_term)]
-fn first_term(parser: &mut Parser<'_>, table: &mut [Entry], depth: usize) -> Result<u16, Refusal>
-    requires { (Ready parser.old) × (depth ≤ 32) }
+fn first_term(parser: &mut Parser<'_>, table: &mut [Entry], depth: Depth) -> Result<u16, Refusal>
+    requires { Ready parser.old }
     ensures less { Less 0 parser.old parser.new result }
-    ensures is { Takes (λ L. simple ∷ L) (λ L. simples ∷ L) depth parser.old table.old parser.new table.new result }
+    ensures is { Takes (λ L. simple ∷ L) (λ L. simples ∷ L) depth.level parser.old table.old parser.new table.new result }
 {
     if !is_minus(parser) {
         return term(parser, table, depth);
     }
-    let place = parser.place;
+    let place = parser.lookahead.place;
     parser.advance()?;
     let part = next_term(parser, table, depth)?;
     Ok(parser.emit(table, Node::Uny(Unary::Negate, part), place))
@@ -68,24 +69,24 @@ fn first_term(parser: &mut Parser<'_>, table: &mut [Entry], depth: usize) -> Res
 
 // The term after a sign.
 #[cycle(bracketed_expr_factor_first_term_negated_next_term_rounded_simple_term)]
-fn next_term(parser: &mut Parser<'_>, table: &mut [Entry], depth: usize) -> Result<u16, Refusal>
-    requires { (Ready parser.old) × (depth ≤ 32) }
+fn next_term(parser: &mut Parser<'_>, table: &mut [Entry], depth: Depth) -> Result<u16, Refusal>
+    requires { Ready parser.old }
     ensures less { Less 0 parser.old parser.new result }
-    ensures is { Parsed term depth parser.old table.old parser.new table.new result }
+    ensures is { Parsed term depth.level parser.old table.old parser.new table.new result }
 {
     term(parser, table, depth)
 }
 
 // factor {(* | div | and) factor}
 #[cycle(bracketed_expr_factor_first_term_negated_next_term_rounded_simple_term)]
-fn term(parser: &mut Parser<'_>, table: &mut [Entry], depth: usize) -> Result<u16, Refusal>
-    requires { (Ready parser.old) × (depth ≤ 32) }
+fn term(parser: &mut Parser<'_>, table: &mut [Entry], depth: Depth) -> Result<u16, Refusal>
+    requires { Ready parser.old }
     ensures less { Less 0 parser.old parser.new result }
-    ensures is { Parsed term depth parser.old table.old parser.new table.new result }
+    ensures is { Parsed term depth.level parser.old table.old parser.new table.new result }
 {
     let mut left = factor(parser, table, depth)?;
     while let Some(op) = multiplying(parser) {
-        let place = parser.place;
+        let place = parser.lookahead.place;
         parser.advance()?;
         let right = factor(parser, table, depth)?;
         left = parser.emit(table, Node::Bin(left, op.operator(), right), place);
@@ -95,12 +96,12 @@ fn term(parser: &mut Parser<'_>, table: &mut [Entry], depth: usize) -> Result<u1
 
 // number | true | false | name | an opened factor
 #[cycle(bracketed_expr_factor_first_term_negated_next_term_rounded_simple_term)]
-fn factor(parser: &mut Parser<'_>, table: &mut [Entry], depth: usize) -> Result<u16, Refusal>
-    requires { (Ready parser.old) × (depth ≤ 32) }
+fn factor(parser: &mut Parser<'_>, table: &mut [Entry], depth: Depth) -> Result<u16, Refusal>
+    requires { Ready parser.old }
     ensures less { Less 0 parser.old parser.new result }
-    ensures is { Parsed factor depth parser.old table.old parser.new table.new result }
+    ensures is { Parsed factor depth.level parser.old table.old parser.new table.new result }
 {
-    match parser.token {
+    match parser.lookahead.token {
         Token::Name(_) => variable(parser, table),
         Token::Number(digits) => constant(parser, table, Value::Number(number(digits))),
         Token::Truth(truth) => constant(parser, table, Value::Truth(truth)),
@@ -113,12 +114,12 @@ fn factor(parser: &mut Parser<'_>, table: &mut [Entry], depth: usize) -> Result<
 
 // ( expr )
 #[cycle(bracketed_expr_factor_first_term_negated_next_term_rounded_simple_term)]
-fn bracketed(parser: &mut Parser<'_>, table: &mut [Entry], depth: usize) -> Result<u16, Refusal>
-    requires { (Ready parser.old) × ((depth ≤ 32) × (meant parser.old.token ≡ other (pre Open))) }
+fn bracketed(parser: &mut Parser<'_>, table: &mut [Entry], depth: Depth) -> Result<u16, Refusal>
+    requires { (Ready parser.old) × (meant parser.old.lookahead.token ≡ other (pre Open)) }
     ensures less { Less 0 parser.old parser.new result }
-    ensures is { Parsed factor depth parser.old table.old parser.new table.new result }
+    ensures is { Parsed factor depth.level parser.old table.old parser.new table.new result }
 {
-    let inner = parser.deeper(depth)?;
+    let inner = parser.deeper(depth.level)?;
     parser.advance()?;
     let part = expr(parser, table, inner)?;
     parser.expect(Mark::Close)?;
@@ -127,13 +128,13 @@ fn bracketed(parser: &mut Parser<'_>, table: &mut [Entry], depth: usize) -> Resu
 
 // not factor
 #[cycle(bracketed_expr_factor_first_term_negated_next_term_rounded_simple_term)]
-fn negated(parser: &mut Parser<'_>, table: &mut [Entry], depth: usize) -> Result<u16, Refusal>
-    requires { (Ready parser.old) × ((depth ≤ 32) × (meant parser.old.token ≡ other (pre Not))) }
+fn negated(parser: &mut Parser<'_>, table: &mut [Entry], depth: Depth) -> Result<u16, Refusal>
+    requires { (Ready parser.old) × (meant parser.old.lookahead.token ≡ other (pre Not)) }
     ensures less { Less 0 parser.old parser.new result }
-    ensures is { Parsed factor depth parser.old table.old parser.new table.new result }
+    ensures is { Parsed factor depth.level parser.old table.old parser.new table.new result }
 {
-    let place = parser.place;
-    let inner = parser.deeper(depth)?;
+    let place = parser.lookahead.place;
+    let inner = parser.deeper(depth.level)?;
     parser.advance()?;
     let part = factor(parser, table, inner)?;
     Ok(parser.emit(table, Node::Uny(Unary::Not, part), place))
@@ -141,13 +142,13 @@ fn negated(parser: &mut Parser<'_>, table: &mut [Entry], depth: usize) -> Result
 
 // round ( factor / factor )
 #[cycle(bracketed_expr_factor_first_term_negated_next_term_rounded_simple_term)]
-fn rounded(parser: &mut Parser<'_>, table: &mut [Entry], depth: usize) -> Result<u16, Refusal>
-    requires { (Ready parser.old) × ((depth ≤ 32) × (meant parser.old.token ≡ other (pre Round))) }
+fn rounded(parser: &mut Parser<'_>, table: &mut [Entry], depth: Depth) -> Result<u16, Refusal>
+    requires { (Ready parser.old) × (meant parser.old.lookahead.token ≡ other (pre Round)) }
     ensures less { Less 0 parser.old parser.new result }
-    ensures is { Parsed factor depth parser.old table.old parser.new table.new result }
+    ensures is { Parsed factor depth.level parser.old table.old parser.new table.new result }
 {
-    let place = parser.place;
-    let inner = parser.deeper(depth)?;
+    let place = parser.lookahead.place;
+    let inner = parser.deeper(depth.level)?;
     parser.advance()?;
     parser.open()?;
     let left = factor(parser, table, inner)?;

@@ -29,17 +29,17 @@ pub(crate) fn number(digits: &[u8]) -> i32
 pub(crate) fn is_minus(parser: &Parser<'_>) -> bool
     ensures { result ≡ is_minus_token (next parser.now) }
 {
-    match parser.token {
-        Token::Operator(Operator::Add(Adding::Minus)) => true,
-        _ => false,
-    }
+    matches!(
+        parser.lookahead.token,
+        Token::Operator(Operator::Add(Adding::Minus))
+    )
 }
 
 // The next token as an operator of one precedence.
 pub(crate) fn multiplying(parser: &Parser<'_>) -> Option<Multiplying>
     ensures { seen result ≡ as_mul (next parser.now) }
 {
-    match parser.token {
+    match parser.lookahead.token {
         Token::Operator(Operator::Mul(op)) => Some(op),
         _ => None,
     }
@@ -48,7 +48,7 @@ pub(crate) fn multiplying(parser: &Parser<'_>) -> Option<Multiplying>
 pub(crate) fn adding(parser: &Parser<'_>) -> Option<Adding>
     ensures { seen result ≡ as_add (next parser.now) }
 {
-    match parser.token {
+    match parser.lookahead.token {
         Token::Operator(Operator::Add(op)) => Some(op),
         _ => None,
     }
@@ -57,7 +57,7 @@ pub(crate) fn adding(parser: &Parser<'_>) -> Option<Adding>
 pub(crate) fn relation(parser: &Parser<'_>) -> Option<Relation>
     ensures { seen result ≡ as_rel (next parser.now) }
 {
-    match parser.token {
+    match parser.lookahead.token {
         Token::Operator(Operator::Rel(op)) => Some(op),
         _ => None,
     }
@@ -69,11 +69,11 @@ pub(crate) fn constant(
     table: &mut [Entry],
     value: Value,
 ) -> Result<u16, Refusal>
-    requires { (Ready parser.old) × ((next parser.old ≡ lit value) × (plain (meant parser.old.token) ≡ true)) }
+    requires { (Ready parser.old) × ((next parser.old ≡ lit value) × (plain (meant parser.old.lookahead.token) ≡ true)) }
     ensures less { Less 0 parser.old parser.new result }
     ensures is { (depth : ℕ) → depth ≤ 32 → Parsed factor depth parser.old table.old parser.new table.new result }
 {
-    let place = parser.place;
+    let place = parser.lookahead.place;
     parser.advance()?;
     Ok(parser.emit(table, Node::Const(value), place))
 }
@@ -84,7 +84,7 @@ pub(crate) fn variable(parser: &mut Parser<'_>, table: &mut [Entry]) -> Result<u
     ensures less { Less 0 parser.old parser.new result }
     ensures is { (depth : ℕ) → depth ≤ 32 → Parsed factor depth parser.old table.old parser.new table.new result }
 {
-    let place = parser.place;
+    let place = parser.lookahead.place;
     let name = parser.name()?;
     Ok(parser.emit(table, Node::Var(name), place))
 }

@@ -23,33 +23,33 @@ use Rattle.parser.proofs.Chains.{from_feed, from_count, stop_feed, moves, takes,
 
 -- what follows the next token
 abbrev pub behind : Parser → Feed
-behind p = feed (learns (known_of p.names) (meant p.token)) (cond (is_stop (meant p.token)) over (limited (scan p.after p.rest.now)))
+behind p = feed (learns (known_of p.names) (meant p.lookahead.token)) (cond (is_stop (meant p.lookahead.token)) over (limited (scan p.lookahead.end.place p.lookahead.end.rest.now)))
 
-pub front : (p : Parser) (t : Tok) → next p ≡ t → ahead p ≡ more (at t p.place) (behind p)
-front p t e = ap (λ x. more (at x p.place) (behind p)) e
+pub front : (p : Parser) (t : Tok) → next p ≡ t → ahead p ≡ more (at t p.lookahead.place) (behind p)
+front p t e = ap (λ x. more (at x p.lookahead.place) (behind p)) e
 
 pub clash : {A : Type 0} → true ≡ false → A
 clash e = let z : ◌≡◌ {A = ℕ} 0 1 = ap (λ b. cond b 0 1) e in absurd (omega arith)
 
 -- a token is read
-pub reads_on : {J K : List Sym} {U : List ℕ} {T : List Entry} {p q : Parser} {t : Tok} → Read p t q → ((s : Listing) → step list J s t p.place ≡ go K s) → marks K ≤ 32 → few t ≡ true → Goes J U p.count T (ahead p) K U q.count T (ahead q)
+pub reads_on : {J K : List Sym} {U : List ℕ} {T : List Entry} {p q : Parser} {t : Tok} → Read p t q → ((s : Listing) → step list J s t p.lookahead.place ≡ go K s) → marks K ≤ 32 → few t ≡ true → Goes J U p.count T (ahead p) K U q.count T (ahead q)
 reads_on r e m k = from_feed r.token (from_count (sym r.count) (reads e m k))
 
 -- a token is read, and something is done with it
-pub reads_act : {J K : List Sym} {U : List ℕ} {T : List Entry} {p q : Parser} {t : Tok} (a : Act) → Read p t q → ((s : Listing) → step list J s t p.place ≡ go K (list a s)) → marks K ≤ 32 → few t ≡ true → Goes J U p.count T (ahead p) (does a ∷ K) U q.count T (ahead q)
-reads_act {J} {K} {p} {q} {t} a r e m k = from_feed r.token (from_count (sym r.count) (moves (λ s. takes J K s (list a s) t p.place (ahead q) (e s) m k ∙ sym (doing a K s (ahead q).tokens (ahead q).ending))))
+pub reads_act : {J K : List Sym} {U : List ℕ} {T : List Entry} {p q : Parser} {t : Tok} (a : Act) → Read p t q → ((s : Listing) → step list J s t p.lookahead.place ≡ go K (list a s)) → marks K ≤ 32 → few t ≡ true → Goes J U p.count T (ahead p) (does a ∷ K) U q.count T (ahead q)
+reads_act {J} {K} {p} {q} {t} a r e m k = from_feed r.token (from_count (sym r.count) (moves (λ s. takes J K s (list a s) t p.lookahead.place (ahead q) (e s) m k ∙ sym (doing a K s (ahead q).tokens (ahead q).ending))))
 
 -- a token is read, and what follows it is refused
-pub cuts_off : {J : List Sym} {U : List ℕ} {c : ℕ} {T : List Entry} (p : Parser) (t : Tok) (r : Refusal) (K : List Sym) (s' : Listing → Listing) → Broken p t r → ((s : Listing) → step list J s t p.place ≡ go K (s' s)) → marks K ≤ 32 → few t ≡ true → Stops J U c T (ahead p) r
-cuts_off {J} {U} p t r K s' b e m k = stop_feed b (record { stops = λ V was es h. takes J K (listing (U ++ V) es) (s' (listing (U ++ V) es)) t p.place (broken r) (e (listing (U ++ V) es)) m k })
+pub cuts_off : {J : List Sym} {U : List ℕ} {c : ℕ} {T : List Entry} (p : Parser) (t : Tok) (r : Refusal) (K : List Sym) (s' : Listing → Listing) → Broken p t r → ((s : Listing) → step list J s t p.lookahead.place ≡ go K (s' s)) → marks K ≤ 32 → few t ≡ true → Stops J U c T (ahead p) r
+cuts_off {J} {U} p t r K s' b e m k = stop_feed b (record { stops = λ V was es h. takes J K (listing (U ++ V) es) (s' (listing (U ++ V) es)) t p.lookahead.place (broken r) (e (listing (U ++ V) es)) m k })
 
 -- no text has the next token there
-pub refused_here : {J : List Sym} {U : List ℕ} {c : ℕ} {T : List Entry} {r : Refusal} (p : Parser) → ((s : Listing) → step list J s (next p) p.place ≡ stuck) → r ≡ refuses Grammar p.place → Stops J U c T (ahead p) r
+pub refused_here : {J : List Sym} {U : List ℕ} {c : ℕ} {T : List Entry} {r : Refusal} (p : Parser) → ((s : Listing) → step list J s (next p) p.lookahead.place ≡ stuck) → r ≡ refuses Grammar p.lookahead.place → Stops J U c T (ahead p) r
 refused_here {J} {U} {c} {T} p e i = subst (λ x. Stops J U c T (ahead p) x) (sym i) (stop_feed (front p (next p) refl) (stucks e))
 
 -- what is expected may change where the next token makes no difference
-pub turns : {J K : List Sym} {U : List ℕ} {c : ℕ} {T : List Entry} (p : Parser) → ((s : Listing) → step list J s (next p) p.place ≡ step list K s (next p) p.place) → Goes J U c T (ahead p) K U c T (ahead p)
-turns {J} {K} p e = moves (λ s. ap (λ v. after list (limits (behind p).ending) (at (next p) p.place) (behind p).tokens v (λ K'' s''. reading K'' s'' (behind p))) (e s))
+pub turns : {J K : List Sym} {U : List ℕ} {c : ℕ} {T : List Entry} (p : Parser) → ((s : Listing) → step list J s (next p) p.lookahead.place ≡ step list K s (next p) p.lookahead.place) → Goes J U c T (ahead p) K U c T (ahead p)
+turns {J} {K} p e = moves (λ s. ap (λ v. after list (limits (behind p).ending) (at (next p) p.lookahead.place) (behind p).tokens v (λ K'' s''. reading K'' s'' (behind p))) (e s))
 
 pub not_mark : (m : Symbol) (t : Tok) (a b : Move Listing) → is_mark m t ≡ false → at_mark list m t a b ≡ b
 not_mark m (mark x) a b h = ap (λ c. cond c a b) h
@@ -96,15 +96,15 @@ not_name unused f b h = refl
 not_name (ty y) f b h = refl
 
 -- a mark that alone may stand there is missing, or what follows it is refused
-pub misses : {J : List Sym} {U : List ℕ} {c : ℕ} {T : List Entry} {m : Symbol} {r : Refusal} (p : Parser) (K : List Sym) → Missed m p r → (is_mark m (next p) ≡ false → (s : Listing) → step list J s (next p) p.place ≡ stuck) → ((s : Listing) → step list J s (mark m) p.place ≡ go K s) → marks K ≤ 32 → Stops J U c T (ahead p) r
+pub misses : {J : List Sym} {U : List ℕ} {c : ℕ} {T : List Entry} {m : Symbol} {r : Refusal} (p : Parser) (K : List Sym) → Missed m p r → (is_mark m (next p) ≡ false → (s : Listing) → step list J s (next p) p.lookahead.place ≡ stuck) → ((s : Listing) → step list J s (mark m) p.lookahead.place ≡ go K s) → marks K ≤ 32 → Stops J U c T (ahead p) r
 misses p K (another h i) n e k = refused_here p (n h) i
 misses {m} {r} p K (cut b) n e k = cuts_off p (mark m) r K (λ s. s) b e k refl
 
-pub misses_mark : {K : List Sym} {U : List ℕ} {c : ℕ} {T : List Entry} {r : Refusal} (m : Symbol) (p : Parser) → Missed m p r → ((s : Listing) → step list (is m ∷ K) s (mark m) p.place ≡ go K s) → marks K ≤ 32 → Stops (is m ∷ K) U c T (ahead p) r
+pub misses_mark : {K : List Sym} {U : List ℕ} {c : ℕ} {T : List Entry} {r : Refusal} (m : Symbol) (p : Parser) → Missed m p r → ((s : Listing) → step list (is m ∷ K) s (mark m) p.lookahead.place ≡ go K s) → marks K ≤ 32 → Stops (is m ∷ K) U c T (ahead p) r
 misses_mark {K} m p x e k = misses p K x (λ h s. not_mark m (next p) (go K s) stuck h) e k
 
 -- the next token by the parser's own
-pub reads_as : (p q : Parser) (t : Tok) → meant p.token ≡ other t → Read p (next p) q → Read p t q
+pub reads_as : (p q : Parser) (t : Tok) → meant p.lookahead.token ≡ other t → Read p (next p) q → Read p t q
 reads_as p q t e r = subst (λ x. Read p x q) (ap (tok (known_of p.names)) e) r
 
 pub is_else_lem : (t : Tok) → is_else t ≡ true → t ≡ else'

@@ -16,6 +16,7 @@ use Rattle.lexer.specs.declared.token.Refusal.{Refusal}
 use Rattle.lexer.specs.Lexemes.{Raw, number_of}
 use Rattle.lexer.specs.Lexemes as raw
 use Rattle.lexer.specs.Scan.{is_stop}
+use Rattle.parser.specs.declared.depth.Depth.{Depth as Deep}
 use Rattle.parser.specs.declared.parser.Parser.{Parser}
 use Rattle.parser.specs.Feeds.{Feed, more, ahead, next, unread, Ready}
 
@@ -61,14 +62,14 @@ broken e = record { tokens = []; ending = bad (number_of e.question) e.place }
 
 -- the token t was next in p, and q has the rest
 pub record Read (p : Parser) (t : Tok) (q : Parser) : Type 0 where
-  pub token : ahead p ≡ more (at t p.place) (ahead q)
+  pub token : ahead p ≡ more (at t p.lookahead.place) (ahead q)
   pub one : unread p ≡ suc (unread q)
   pub ready : Ready q
   pub count : q.count ≡ p.count
 
 -- the token t was next in p, and what follows it is refused
 abbrev pub Broken : Parser → Tok → Refusal → Type 0
-Broken p t e = ahead p ≡ more (at t p.place) (broken e)
+Broken p t e = ahead p ≡ more (at t p.lookahead.place) (broken e)
 
 abbrev pub Advanced : {A : Type 0} → Parser → Tok → Parser → Result A Refusal → Type 0
 Advanced p t q (Ok u) = Read p t q
@@ -76,7 +77,7 @@ Advanced p t q (Err e) = Broken p t e
 
 -- a mark was expected
 pub data Missed (m : Mark) (p : Parser) (e : Refusal) : Type 0 where
-  another : is_mark m (next p) ≡ false → e ≡ refuses Grammar p.place → Missed m p e
+  another : is_mark m (next p) ≡ false → e ≡ refuses Grammar p.lookahead.place → Missed m p e
   cut : Broken p (mark m) e → Missed m p e
 
 abbrev pub Expected : {A : Type 0} → Mark → Parser → Parser → Result A Refusal → Type 0
@@ -117,7 +118,7 @@ is_minus (ty y) = false
 
 -- a bracket was expected
 pub data Closed (p : Parser) (e : Refusal) : Type 0 where
-  another : is_open (next p) ≡ false → e ≡ refuses Grammar p.place → Closed p e
+  another : is_open (next p) ≡ false → e ≡ refuses Grammar p.lookahead.place → Closed p e
   cut : Broken p (pre Open) e → Closed p e
 
 abbrev pub Opened : {A : Type 0} → Parser → Parser → Result A Refusal → Type 0
@@ -126,8 +127,8 @@ Opened p q (Err e) = Closed p e
 
 -- a name was expected
 pub data Nameless (p : Parser) (e : Refusal) : Type 0 where
-  another : is_name (next p) ≡ false → e ≡ refuses Grammar p.place → Nameless p e
-  many : (m : ℕ) → 64 ≤ m → (f : Feed) → ahead p ≡ more (at (name m) p.place) f → e ≡ refuses NameCount p.place → Nameless p e
+  another : is_name (next p) ≡ false → e ≡ refuses Grammar p.lookahead.place → Nameless p e
+  many : (m : ℕ) → 64 ≤ m → (f : Feed) → ahead p ≡ more (at (name m) p.lookahead.place) f → e ≡ refuses NameCount p.lookahead.place → Nameless p e
   cut : (m : ℕ) → m < 64 → Broken p (name m) e → Nameless p e
 
 abbrev pub Named : Parser → Parser → Result ℕ Refusal → Type 0
@@ -143,6 +144,6 @@ pub record Listed (p : Parser) (T : List Entry) (n : Node) (place r : ℕ) (q : 
   pub wrote : T' ≡ slice_set T p.count (entry n place)
 
 -- one deeper, at most 32
-abbrev pub Deepened : ℕ → Parser → Result ℕ Refusal → Type 0
-Deepened d p (Ok n) = (n ≡ d + 1) × (d < 32)
-Deepened d p (Err e) = (32 ≤ d) × (e ≡ refuses Depth p.place)
+abbrev pub Deepened : ℕ → Parser → Result Deep Refusal → Type 0
+Deepened d p (Ok n) = (n.level ≡ d + 1) × (d < 32)
+Deepened d p (Err e) = (32 ≤ d) × (e ≡ refuses Depth p.lookahead.place)

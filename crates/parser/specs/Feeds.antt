@@ -3,6 +3,7 @@ use Rattle.std.specs.Prelude.{◌≡◌, ℕ, ◌+◌, ◌*◌, ◌≤◌, List,
 use Rattle.std.specs.Borrow.{Bor}
 use Rattle.grammar.specs.Tokens.{Tok, Item}
 use Rattle.grammar.specs.Limits.{Ending}
+use Rattle.lexer.specs.declared.token.Lexeme.{Lexeme}
 use Rattle.lexer.specs.Spelling.{lowered}
 use Rattle.lexer.specs.Lexemes.{meant}
 use Rattle.lexer.specs.Scan.{Scan, follow, scan, limit, limited}
@@ -26,9 +27,13 @@ spellings (w ∷ ws) = lowered w.now ∷ spellings ws
 abbrev pub known_of : Names → Known
 known_of n = known n.titled (take n.count (spellings n.words))
 
--- the unread tokens as they are written; the next one has kept its limits
+-- a token that has kept its limits, and those after it, as they are written
+abbrev pub from : Lexeme → Scan
+from l = follow (meant l.token) l.place (limited (scan l.end.place l.end.rest.now))
+
+-- the unread tokens as they are written
 abbrev pub written : Parser → Scan
-written p = follow (meant p.token) p.place (limited (scan p.after p.rest.now))
+written p = from p.lookahead
 
 abbrev pub feed : Known → Scan → Feed
 feed k s = record { tokens = items k s; ending = ends s }
@@ -38,15 +43,14 @@ ahead p = feed (known_of p.names) (written p)
 
 -- the next token
 abbrev pub next : Parser → Tok
-next p = tok (known_of p.names) (meant p.token)
+next p = tok (known_of p.names) (meant p.lookahead.token)
 
 abbrev pub unread : Parser → ℕ
 unread p = length (ahead p).tokens
 
--- places stay small, at most 64 names are known, the next token has kept the limits of its length, and two nodes for each unread token can be counted: 40,000 is above twice the tokens of a text of 16,384 bytes
+-- places stay small, the next token has kept the limits of its length, and two nodes for each unread token can be counted: 40,000 is above twice the tokens of a text of 16,384 bytes
 pub record Ready (p : Parser) : Type 0 where
-  pub near : p.place ≤ 16384
-  pub within : p.after + length p.rest.now ≤ 16384
-  pub few : p.names.count ≤ 64
-  pub kept : limit (meant p.token) ≡ 0
+  pub near : p.lookahead.place ≤ 16384
+  pub within : p.lookahead.end.place + length p.lookahead.end.rest.now ≤ 16384
+  pub kept : limit (meant p.lookahead.token) ≡ 0
   pub room : p.count + 2 * unread p ≤ 40000

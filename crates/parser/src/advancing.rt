@@ -6,17 +6,15 @@ ghost use Rattle.lexer.specs.Lexemes.{meant, lex_meant};
 ghost use Rattle.lexer.specs.Scan.{is_stop};
 ghost use Rattle.parser.specs.Feeds.{ahead, next, unread, Ready};
 ghost use Rattle.parser.specs.Advancing.{is_mark, is_name, plain, refuses, Advanced, Expected, Named, Listed, Deepened, Opened};
-ghost use Rattle.parser.specs.Fetching.{Fetches, Begun, onto, counting};
+ghost use Rattle.parser.specs.Fetching.{Fetches, Begun, counting};
 
+use crate::depth::{Depth, MAX_DEPTH};
 use crate::names::Names;
 use crate::parser::Parser;
 use grammar::symbols::{Mark, Prefix};
-use lexer::lexing::next_limited;
-use lexer::token::{Lexeme, Question, Refusal, Token};
+use lexer::cursor::Cursor;
+use lexer::token::{Question, Refusal, Token};
 use tosca::table::{Entry, Node};
-
-// Openers nest at most so deep.
-pub const MAX_DEPTH: usize = 32;
 
 impl<'a> Parser<'a> {
     // The parser at the first token of a text.
@@ -24,57 +22,39 @@ impl<'a> Parser<'a> {
         requires { length text.now ≤ 16384 }
         ensures { Begun text.now result }
     {
-        let first = next_limited(text, 0)?;
-        Ok(Parser::at(first, Names::new()))
-    }
-
-    // The parser with the lexeme as its next token, and no nodes.
-    fn at(lexeme: Lexeme<'a>, names: Names<'a>) -> Parser<'a>
-        ensures { result ≡ onto lexeme.entry names.entry 0 }
-    {
-        Parser {
-            token: lexeme.token,
-            place: lexeme.place,
-            rest: lexeme.rest,
-            after: lexeme.after,
-            names,
+        let start = Cursor {
+            rest: text,
+            place: 0,
+        };
+        Ok(Parser {
+            lookahead: start.next_limited()?,
+            names: Names::new(),
             count: 0,
-        }
+        })
     }
 
     // The refusal of the next token.
     pub fn refuse(&self, question: Question) -> Refusal
-        ensures { result ≡ refuses question self.now.place }
+        ensures { result ≡ refuses question self.now.lookahead.place }
     {
         Refusal {
             question,
-            place: self.place,
+            place: self.lookahead.place,
         }
     }
 
     // Replaces the next token by the one after it; names and nodes stay as they are.
     fn fetch(&mut self) -> Result<(), Refusal>
-        requires { (self.old.after + length self.old.rest.now ≤ 16384) × (is_stop (meant self.old.token) ≡ false) }
+        requires { (self.old.lookahead.end.place + length self.old.lookahead.end.rest.now ≤ 16384) × (is_stop (meant self.old.lookahead.token) ≡ false) }
         ensures { Fetches self.old self.new result }
     {
-        let lexeme = next_limited(self.rest, self.after)?;
-        self.put(lexeme);
+        self.lookahead = self.lookahead.end.next_limited()?;
         Ok(())
-    }
-
-    // Makes the lexeme the next token.
-    fn put(&mut self, lexeme: Lexeme<'a>)
-        ensures { self.new ≡ onto lexeme.entry self.old.names self.old.count }
-    {
-        self.token = lexeme.token;
-        self.place = lexeme.place;
-        self.rest = lexeme.rest;
-        self.after = lexeme.after;
     }
 
     // Goes on to the next token, from any but a name and the end.
     pub fn advance(&mut self) -> Result<(), Refusal>
-        requires { (Ready self.old) × (plain (meant self.old.token) ≡ true) }
+        requires { (Ready self.old) × (plain (meant self.old.lookahead.token) ≡ true) }
         ensures { Advanced self.old (next self.old) self.new result }
     {
         self.fetch()
@@ -85,7 +65,7 @@ impl<'a> Parser<'a> {
         requires { Ready self.old }
         ensures { Named self.old self.new result }
     {
-        let Token::Name(word) = self.token else {
+        let Token::Name(word) = self.lookahead.token else {
             return Err(self.refuse(Question::Grammar));
         };
         let Some(number) = self.names.number(word) else {
@@ -99,10 +79,7 @@ impl<'a> Parser<'a> {
     pub fn is_at(&self, mark: Mark) -> bool
         ensures { result ≡ is_mark mark (next self.now) }
     {
-        match self.token {
-            Token::Mark(found) => found == mark,
-            _ => false,
-        }
+        matches!(self.lookahead.token, Token::Mark(found) if found == mark)
     }
 
     // Reads the mark, which alone may stand here.
@@ -121,20 +98,20 @@ impl<'a> Parser<'a> {
         requires { Ready self.old }
         ensures { Opened self.old self.new result }
     {
-        match self.token {
+        match self.lookahead.token {
             Token::Prefix(Prefix::Open) => self.advance(),
             _ => Err(self.refuse(Question::Grammar)),
         }
     }
 
-    // One deeper, for an opener that is the next token.
-    pub fn deeper(&self, depth: usize) -> Result<usize, Refusal>
-        ensures { Deepened depth self.now result }
+    // One deeper than this level, for an opener that is the next token.
+    pub fn deeper(&self, level: usize) -> Result<Depth, Refusal>
+        ensures { Deepened level self.now result }
     {
-        if depth >= MAX_DEPTH {
+        if level >= MAX_DEPTH {
             return Err(self.refuse(Question::Depth));
         }
-        Ok(depth + 1)
+        Ok(Depth { level: level + 1 })
     }
 
     // Lists a node, or only counts it where the table is full, and gives its number.

@@ -2,5 +2,6 @@
 #![tactic(auto)]
 
 pub mod advancing;
+pub mod depth;
 pub mod names;
 pub mod parser;

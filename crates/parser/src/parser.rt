@@ -1,13 +1,10 @@
-// The parser's state: one token of lookahead, the rest of the text, the names so far and the count of nodes.
+// The parser's state: the next lexeme, the names so far and the count of nodes.
 use crate::names::Names;
-use lexer::token::Token;
+use lexer::token::Lexeme;
 
 #[derive(Clone, Copy)]
 pub struct Parser<'a> {
-    pub token: Token<'a>,
-    pub place: usize,
-    pub rest: &'a [u8],
-    pub after: usize,
+    pub lookahead: Lexeme<'a>,
     pub names: Names<'a>,
     pub count: u16,
 }

@@ -48,32 +48,32 @@ last p = does (a_program p) ∷ is Stop ∷ []
 
 -- program name ;
 module _ (P A B C : Parser) (T : List Entry) (x : ℕ) (z : P.count ≡ 0) (few : x < 64) (a : Read P (mark Program) A) (b : Read A (name x) B) (c : Read B (mark Semicolon) C) where
-  heading : Goes (text ∷ []) [] P.count T (ahead P) (vars ∷ last P.place) [] C.count T (ahead C)
+  heading : Goes (text ∷ []) [] P.count T (ahead P) (vars ∷ last P.lookahead.place) [] C.count T (ahead C)
   heading = chain (reads_on a (λ s. refl) (omega arith) refl) (chain (reads_on b (λ s. refl) (omega arith) (lt-ltb x 64 few)) (reads_on c (λ s. refl) (omega arith) refl))
 
   pub decls_wrong : (D : Parser) (T₁ : List Entry) (w : Refusal) → Passes {A = Unit {0}} (λ L. vars ∷ L) body C T D T₁ (Err w) → reading (text ∷ []) (listing [] []) (ahead P) ≡ refusal w
-  decls_wrong D T₁ w d = whole_stops P T w z (chain_stop heading (d (last P.place) refl))
+  decls_wrong D T₁ w d = whole_stops P T w z (chain_stop heading (d (last P.lookahead.place) refl))
 
   module _ (D : Parser) (T₁ : List Entry) (u : Unit {0}) (d : Passes {A = Unit {0}} (λ L. vars ∷ L) body C T D T₁ (Ok u)) where
     pub body_wrong : (E : Parser) (T₂ : List Entry) (w : Refusal) → Takes (λ L. cmd ∷ cmds ∷ L) (λ L. L) 1 D T₁ E T₂ (Err w) → reading (text ∷ []) (listing [] []) (ahead P) ≡ refusal w
-    body_wrong E T₂ w e = whole_stops P T w z (chain_stop heading (chain_stop (d (last P.place) refl) (e (leave ∷ is Period ∷ last P.place) refl)))
+    body_wrong E T₂ w e = whole_stops P T w z (chain_stop heading (chain_stop (d (last P.lookahead.place) refl) (e (leave ∷ is Period ∷ last P.lookahead.place) refl)))
 
     module _ (E : Parser) (T₂ : List Entry) (n : ℕ) (e : Takes (λ L. cmd ∷ cmds ∷ L) (λ L. L) 1 D T₁ E T₂ (Ok n)) where
-      ending : Goes (text ∷ []) [] P.count T (ahead P) (is Period ∷ last P.place) (n ∷ []) E.count T₂ (ahead E)
-      ending = chain heading (chain (d (last P.place) refl) (chain (e (leave ∷ is Period ∷ last P.place) refl) leaves))
+      ending : Goes (text ∷ []) [] P.count T (ahead P) (is Period ∷ last P.lookahead.place) (n ∷ []) E.count T₂ (ahead E)
+      ending = chain heading (chain (d (last P.lookahead.place) refl) (chain (e (leave ∷ is Period ∷ last P.lookahead.place) refl) leaves))
 
       pub no_period : (w : Refusal) → Missed Period E w → reading (text ∷ []) (listing [] []) (ahead P) ≡ refusal w
       no_period w m = whole_stops P T w z (chain_stop ending (misses_mark Period E m (λ s. refl) (omega arith)))
 
-      module _ (F G : Parser) (T₃ : List Entry) (r : ℕ) (f : Read E (mark Period) F) (l : Listed F T₂ (node.Program n) P.place r G T₃) where
+      module _ (F G : Parser) (T₃ : List Entry) (r : ℕ) (f : Read E (mark Period) F) (l : Listed F T₂ (node.Program n) P.lookahead.place r G T₃) where
         built : Goes (text ∷ []) [] P.count T (ahead P) (is Stop ∷ []) (r ∷ []) G.count T₃ (ahead G)
-        built = chain ending (chain (reads_on f (λ s. refl) (omega arith) refl) (lists (a_program P.place) (λ V es. refl) l))
+        built = chain ending (chain (reads_on f (λ s. refl) (omega arith) refl) (lists (a_program P.lookahead.place) (λ V es. refl) l))
 
-        pub no_stop : (w : Refusal) → is_mark Stop (next G) ≡ false → w ≡ refuses Grammar G.place → reading (text ∷ []) (listing [] []) (ahead P) ≡ refusal w
+        pub no_stop : (w : Refusal) → is_mark Stop (next G) ≡ false → w ≡ refuses Grammar G.lookahead.place → reading (text ∷ []) (listing [] []) (ahead P) ≡ refusal w
         no_stop w h i = whole_stops P T w z (chain_stop built (refused_here G (λ s. not_mark Stop (next G) (go [] s) stuck h) i))
 
         pub whole : (v : Unit {0}) → is_mark Stop (next G) ≡ true → Whole {A = Unit {0}} P T G T₃ (Ok v)
         whole v h =
             let x = built.goes [] T [] (sym z, refl) in
             let s = listing (r ∷ []) x.0 in
-            (s, x.1, x.2 ∙ at_stop (known_of G.names) (meant G.token) G.place (limited (scan G.after G.rest.now)) s h)
+            (s, x.1, x.2 ∙ at_stop (known_of G.names) (meant G.lookahead.token) G.lookahead.place (limited (scan G.lookahead.end.place G.lookahead.end.rest.now)) s h)

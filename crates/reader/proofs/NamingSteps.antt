@@ -1,5 +1,5 @@
 -- Gathering names: one token of a scan, and the word of each number.
-use Rattle.std.proofs.Common.{◌≡◌, ℕ, zero, suc, ◌+◌, ◌<◌, ◌≤◌, Bool, true, false, cond, ltb, List, [], ◌∷◌, ◌++◌, length, Some, Ok, Err, sym, refl, ap, ◌∙◌, subst, arith, length-append, le-leb}
+use Rattle.std.proofs.Common.{◌≡◌, ℕ, zero, suc, ◌<◌, ◌≤◌, Bool, true, false, cond, ltb, List, [], ◌∷◌, ◌++◌, length, Some, Ok, Err, sym, refl, ap, ◌∙◌, subst, arith, length-append, le-leb}
 use borrow.Author.Tests.{clash, lt-leb}
 use Rattle.std.specs.List.{slice_get}
 use Rattle.lexer.specs.declared.token.Lexeme.{Lexeme}
@@ -7,13 +7,13 @@ use Rattle.lexer.specs.declared.token.Refusal.{Refusal}
 use Rattle.lexer.specs.Spelling.{lowered, same}
 use Rattle.lexer.specs.Lexemes.{name, number, other, meant, Lexed, lexeme, none, lex_meant, lex}
 use Rattle.lexer.specs.Limited.{asked_by, asked}
-use Rattle.lexer.specs.Scan.{Scan, more, broken, over, is_stop, follow, scan, limit, limited}
+use Rattle.lexer.specs.Scan.{Scan, more, broken, over, is_stop, scan, limit, limited}
 use Rattle.lexer.specs.Names.{index, noted, Known, known, nothing, numbered, after, items}
 use Rattle.lexer.specs.NameLaws.{Piece, piece, onto, taught, Few}
 use Rattle.lexer.proofs.Scanning.{by_cond, fewer}
 use Rattle.lexer.proofs.Numbering.{same_is, index_noted, noted_within}
 use Rattle.parser.specs.declared.names.Names.{Names}
-use Rattle.parser.specs.Feeds.{known_of}
+use Rattle.parser.specs.Feeds.{known_of, from}
 use Rattle.parser.proofs.StepToken.{first, breaks}
 use Rattle.reader.specs.Naming.{gathered, named, Noted, Spelled}
 
@@ -25,34 +25,31 @@ module _ (at : ℕ) (bs : List ℕ) where
   ends_refused k e h = ap (gathered k) (breaks at bs e h)
 
   module _ (l : Lexeme) (e : lex_meant (Ok l) ≡ asked (lex at bs)) (m n : Names) where
-    begins : limited (scan at bs) ≡ follow (meant l.token) l.place (limited (scan l.after l.rest.now))
-    begins = (first at bs l m 0 e).tokens
+    begins : limited (scan at bs) ≡ from l
+    begins = (first at bs l e).tokens
 
-    pub stays : l.after + length l.rest.now ≤ at + length bs
-    stays = (first at bs l m 0 e).within
-
-    pub goes_on : Noted m l.token n true → gathered (known_of m) (limited (scan at bs)) ≡ gathered (known_of n) (limited (scan l.after l.rest.now))
+    pub goes_on : Noted m l.token n true → gathered (known_of m) (limited (scan at bs)) ≡ gathered (known_of n) (limited (scan l.end.place l.end.rest.now))
     goes_on h =
         ap (gathered (known_of m)) begins
-        ∙ ap (λ b. gathered (known_of m) (more (meant l.token) l.place (cond b over (limited (scan l.after l.rest.now))))) h.1
-        ∙ h.2 l.place (limited (scan l.after l.rest.now))
+        ∙ ap (λ b. gathered (known_of m) (more (meant l.token) l.place (cond b over (limited (scan l.end.place l.end.rest.now))))) h.0
+        ∙ h.1 l.place (limited (scan l.end.place l.end.rest.now))
 
     pub ends_there : Noted m l.token n false → gathered (known_of m) (limited (scan at bs)) ≡ known_of n
-    ends_there h = ap (gathered (known_of m)) begins ∙ h.1 l.place (limited (scan l.after l.rest.now))
+    ends_there h = ap (gathered (known_of m)) begins ∙ h l.place (limited (scan l.end.place l.end.rest.now))
 
-    by_asked : (x : Lexed) → lex at bs ≡ x → lex_meant (Ok l) ≡ asked x → is_stop (meant l.token) ≡ false → length l.rest.now < length bs
+    by_asked : (x : Lexed) → lex at bs ≡ x → lex_meant (Ok l) ≡ asked x → is_stop (meant l.token) ≡ false → length l.end.rest.now < length bs
     by_asked (none a q) k h go = absurd (let z : ◌≡◌ {A = ℕ} 0 1 = cc in omega arith)
     by_asked (lexeme r q a cs) k h go = by_limit (limit r) h
       where
-        by_limit : (i : ℕ) → lex_meant (Ok l) ≡ asked_by i (lexeme r q a cs) q → length l.rest.now < length bs
+        by_limit : (i : ℕ) → lex_meant (Ok l) ≡ asked_by i (lexeme r q a cs) q → length l.end.rest.now < length bs
         by_limit zero f =
             let x : meant l.token ≡ r = cc in
-            let y : l.rest.now ≡ cs = cc in
+            let y : l.end.rest.now ≡ cs = cc in
             subst (λ u. length u < length bs) (sym y) (fewer at bs k (ap is_stop (sym x) ∙ go))
         by_limit (suc i) f = absurd (let z : ◌≡◌ {A = ℕ} 0 1 = cc in omega arith)
 
-    pub takes : Noted m l.token n true → length l.rest.now < length bs
-    takes h = by_asked (lex at bs) refl e h.1
+    pub takes : Noted m l.token n true → length l.end.rest.now < length bs
+    takes h = by_asked (lex at bs) refl e h.0
 
 pub within : (bs : List ℕ) → length bs ≤ 16384 → named bs ≡ gathered nothing (limited (scan 0 bs))
 within bs h = ap (λ b. cond b (gathered nothing (limited (scan 0 bs))) nothing) (le-leb (length bs) 16384 h)

@@ -1,5 +1,6 @@
 -- Each way through the reader's functions.
-use Rattle.std.proofs.Common.{◌≡◌, ℕ, ◌<◌, ◌≤◌, Bool, cond, ◌&&◌, leb, List, [], ◌∷◌, length, replicate, Ok, Err, Result, sym, refl, ap, ◌∙◌, subst, arith}
+use Rattle.std.specs.Result.{is_err}
+use Rattle.std.proofs.Common.{◌≡◌, ℕ, ◌<◌, ◌≤◌, Bool, true, false, cond, ◌&&◌, leb, List, [], ◌∷◌, length, replicate, Ok, Err, Result, sym, refl, ap, ◌∙◌, subst, arith}
 use lib.ListN.{length-replicate}
 use borrow.Author.Tests.{lt-leb}
 use Rattle.tosca.specs.declared.table.Entry.{Entry}
@@ -11,6 +12,7 @@ use Rattle.lexer.specs.declared.token.Refusal.{Refusal}
 use Rattle.lexer.specs.Lexemes.{number_of}
 use Rattle.lexer.specs.Scan.{scan, limited}
 use Rattle.lexer.specs.Names.{nothing, ends}
+use Rattle.parser.proofs.CommandSteps.{clash}
 use Rattle.parser.specs.Feeds.{Feed, feed}
 use Rattle.parser.specs.Advancing.{broken}
 use Rattle.parser.specs.Parsing as parsing
@@ -59,14 +61,17 @@ promised_no cap bs e h = record {
   complete = λ t l k. absurd (let x : no (number_of e.question) e.place ≡ count (length (entries_of t)) = sym (ap answer h) ∙ completes cap bs t l k in let z : ◌≡◌ {A = ℕ} 0 1 = cc in omega arith);
 }
 
-pub promise_yes : (bs : List ℕ) (n : ℕ) (T T1 T2 : List Entry) → T1 ≡ replicate (length T) blank → Nodes bs T1 T2 (Ok n) → Promised (length T) bs T2 (Ok n)
-promise_yes bs n T T1 T2 e x =
+-- what `read` promises of each answer, with the table as it is then
+pub promise_yes : (bs : List ℕ) (r : Result ℕ Refusal) (T T1 T2 : List Entry) → is_err r ≡ false → T1 ≡ replicate (length T) blank → Nodes bs T1 T2 r → Promised (length T) bs T2 r
+promise_yes bs (Ok n) T T1 T2 h e x =
     let l : length T1 ≡ length T = ap length e ∙ length-replicate (length T) blank in
     let t : T2 ≡ laid x.0.entries (replicate (length T) blank) = x.3 ∙ ap (laid x.0.entries) e in
     subst (λ v. Promised (length T) bs v (Ok n)) (sym t) (promised_yes (length T) bs n x.0 (ap (λ k. outcome k bs) (sym l) ∙ x.1) x.2)
+promise_yes bs (Err r) T T1 T2 h e x = clash h
 
-pub promise_no : (bs : List ℕ) (r : Refusal) (T T1 T2 T3 : List Entry) → T1 ≡ replicate (length T) blank → length T2 ≡ length T1 → T3 ≡ replicate (length T2) blank → Nodes bs T1 T2 (Err r) → Promised (length T) bs T3 (Err r)
-promise_no bs r T T1 T2 T3 e k f x =
+pub promise_no : (bs : List ℕ) (r : Result ℕ Refusal) (T T1 T2 T3 : List Entry) → is_err r ≡ true → T1 ≡ replicate (length T) blank → length T2 ≡ length T1 → T3 ≡ replicate (length T2) blank → Nodes bs T1 T2 r → Promised (length T) bs T3 r
+promise_no bs (Ok n) T T1 T2 T3 h e k f x = clash (sym h)
+promise_no bs (Err r) T T1 T2 T3 h e k f x =
     let l : length T1 ≡ length T = ap length e ∙ length-replicate (length T) blank in
     let t : T3 ≡ replicate (length T) blank = f ∙ ap (λ m. replicate m blank) (k ∙ l) in
     subst (λ v. Promised (length T) bs v (Err r)) (sym t) (promised_no (length T) bs r (ap (λ m. outcome m bs) (sym l) ∙ x))

@@ -5,13 +5,12 @@ ghost use Rattle.reader.specs.Naming.{named, Noted, Spelled};
 
 use crate::reading::MAX_TEXT;
 use grammar::symbols::Mark;
-use lexer::lexing::next_limited;
+use lexer::cursor::Cursor;
 use lexer::token::Token;
 use parser::names::Names;
 
 // Notes the name that a token is. False at the end, and where the name would be one too many.
 fn note<'a>(names: &mut Names<'a>, token: Token<'a>) -> bool
-    requires { names.old.count ≤ 64 }
     ensures { Noted names.old token.entry names.new result }
 {
     match token {
@@ -30,14 +29,15 @@ pub fn names_of<'a>(text: &'a [u8]) -> Names<'a>
     if text.len() > MAX_TEXT {
         return names;
     }
-    let mut rest = text;
-    let mut at = 0;
-    while let Ok(lexeme) = next_limited(rest, at) {
+    let mut at = Cursor {
+        rest: text,
+        place: 0,
+    };
+    while let Ok(lexeme) = at.next_limited() {
         if !note(&mut names, lexeme.token) {
             return names;
         }
-        rest = lexeme.rest;
-        at = lexeme.after;
+        at = lexeme.end;
     }
     names
 }

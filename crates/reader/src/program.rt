@@ -7,6 +7,7 @@ use commands::commands::cmds;
 use declarations::declarations::declarations;
 use grammar::symbols::Mark;
 use lexer::token::{Question, Refusal};
+use parser::depth::Depth;
 use parser::parser::Parser;
 use tosca::table::{Entry, Node};
 
@@ -15,12 +16,12 @@ pub fn program(parser: &mut Parser<'_>, table: &mut [Entry]) -> Result<(), Refus
     requires { (Ready parser.old) × (parser.old.count ≡ 0) }
     ensures { Whole parser.old table.old parser.new table.new result }
 {
-    let place = parser.place;
+    let place = parser.lookahead.place;
     parser.expect(Mark::Program)?;
     parser.name()?;
     parser.expect(Mark::Semicolon)?;
     declarations(parser, table)?;
-    let body = cmds(parser, table, 1)?;
+    let body = cmds(parser, table, Depth::BODY)?;
     parser.expect(Mark::Period)?;
     parser.emit(table, Node::Program(body), place);
     if parser.is_at(Mark::Stop) {

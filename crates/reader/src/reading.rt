@@ -60,11 +60,9 @@ pub fn read(text: &[u8], table: &mut [Entry]) -> Result<usize, Refusal>
     ensures unique { OneTree text.now }
 {
     clear(table);
-    match read_nodes(text, table) {
-        Ok(count) => Ok(count),
-        Err(refusal) => {
-            clear(table);
-            Err(refusal)
-        }
+    let answer = read_nodes(text, table);
+    if answer.is_err() {
+        clear(table);
     }
+    answer
 }

@@ -23,8 +23,8 @@ decreases-cmd l = 3 * unread l.parser.now + 1
 abbrev pub decreases-cmds : goal.decreases-cmds
 decreases-cmds l = 3 * unread l.parser.now + 2
 
-abbrev pub invariant-cmds-loop-place : goal.invariant-cmds-loop-place
-invariant-cmds-loop-place l = Looped cmds l.depth l.initial.all l.initial.parser l.initial.table l.all l.parser l.table
+abbrev pub invariant-cmds-loop-depth : goal.invariant-cmds-loop-depth
+invariant-cmds-loop-depth l = Looped cmds l.depth.level l.initial.all l.initial.parser l.initial.table l.all l.parser l.table
 
-abbrev pub decreases-cmds-loop-place : goal.decreases-cmds-loop-place
-decreases-cmds-loop-place l = unread l.parser
+abbrev pub decreases-cmds-loop-depth : goal.decreases-cmds-loop-depth
+decreases-cmds-loop-depth l = unread l.parser

@@ -22,6 +22,6 @@ returns c =
     let b = c.in_ok-open.ensures in
     let e = c.in_ok-expect.ensures in
     record {
-      less = less_input c.args.parser.now c.advance.new.self c.open.new.self c.name.new.self c.emit-number.new.self c.expect.new.self (start Read) (pre Open) (name c.in_ok-name.name) (mark Close) c.args.table.now c.emit-number.new.table (Input c.in_ok-name.name) c.args.parser.now.place c.emit-number.result c.emit-number.result a b n.1 c.emit-number.ensures e;
+      less = less_input c.args.parser.now c.advance.new.self c.open.new.self c.name.new.self c.emit-number.new.self c.expect.new.self (start Read) (pre Open) (name c.in_ok-name.name) (mark Close) c.args.table.now c.emit-number.new.table (Input c.in_ok-name.name) c.args.parser.now.lookahead.place c.emit-number.result c.emit-number.result a b n.1 c.emit-number.ensures e;
       is = λ d h. inputs d c.args.parser.now c.advance.new.self c.open.new.self c.name.new.self c.emit-number.new.self c.expect.new.self c.args.table.now c.emit-number.new.table c.in_ok-name.name c.emit-number.result h n.0 a b n.1 c.emit-number.ensures e;
     }

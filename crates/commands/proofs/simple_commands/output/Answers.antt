@@ -11,22 +11,22 @@ use Rattle.commands.proofs.simple_commands.output.Goals as goal
 pub returns-in_err-value : goal.returns-in_err-value
 returns-in_err-value c =
     let x = err_from_is_err_and c.from_residual-in_err-value.result c.from_residual-in_err-value.ensures.1 in
-    let a = reads_as c.args.parser.now c.advance.new.self (start Write) c.requires.1.1 c.in_ok-advance.ensures in
-    rw (x.1, x.2) (record { less = tt; is = outputs_wrong c.args.depth c.args.parser.now c.advance.new.self c.open.new.self c.expr.new.parser c.expr.new.parser c.args.table.now c.expr.new.table c.expr.new.table c.in_err-value.field-0.0 c.requires.1.0 a c.in_ok-open.ensures c.in_err-value.ensures.is })
+    let a = reads_as c.args.parser.now c.advance.new.self (start Write) c.requires.1 c.in_ok-advance.ensures in
+    rw (x.1, x.2) (record { less = tt; is = outputs_wrong c.args.depth.level c.args.parser.now c.advance.new.self c.open.new.self c.expr.new.parser c.expr.new.parser c.args.table.now c.expr.new.table c.expr.new.table c.in_err-value.field-0.0 c.args.depth.within a c.in_ok-open.ensures c.in_err-value.ensures.is })
 
 pub returns-in_err-expect : goal.returns-in_err-expect
 returns-in_err-expect c =
     let x = err_from_is_err_and c.from_residual-in_err-expect.result c.from_residual-in_err-expect.ensures.1 in
-    let a = reads_as c.args.parser.now c.advance.new.self (start Write) c.requires.1.1 c.in_ok-advance.ensures in
-    rw (x.1, x.2) (record { less = tt; is = outputs_open c.args.depth c.args.parser.now c.advance.new.self c.open.new.self c.expr.new.parser c.expect.new.self c.args.table.now c.expr.new.table c.expr.new.table c.in_ok-value.value c.in_err-expect.field-0.0 c.requires.1.0 a c.in_ok-open.ensures c.in_ok-value.ensures.is c.in_err-expect.ensures })
+    let a = reads_as c.args.parser.now c.advance.new.self (start Write) c.requires.1 c.in_ok-advance.ensures in
+    rw (x.1, x.2) (record { less = tt; is = outputs_open c.args.depth.level c.args.parser.now c.advance.new.self c.open.new.self c.expr.new.parser c.expect.new.self c.args.table.now c.expr.new.table c.expr.new.table c.in_ok-value.value c.in_err-expect.field-0.0 c.args.depth.within a c.in_ok-open.ensures c.in_ok-value.ensures.is c.in_err-expect.ensures })
 
 pub returns : goal.returns
 returns c =
-    let a = reads_as c.args.parser.now c.advance.new.self (start Write) c.requires.1.1 c.in_ok-advance.ensures in
+    let a = reads_as c.args.parser.now c.advance.new.self (start Write) c.requires.1 c.in_ok-advance.ensures in
     let b = c.in_ok-open.ensures in
     let v = c.in_ok-value.ensures in
     let e = c.in_ok-expect.ensures in
     record {
-      less = less_output c.args.parser.now c.advance.new.self c.open.new.self c.expr.new.parser c.expect.new.self c.emit.new.self (start Write) (pre Open) (mark Close) c.expr.new.table c.emit.new.table (Output c.in_ok-value.value) c.args.parser.now.place c.in_ok-value.value c.emit.result c.requires.0 a b v.less e c.emit.ensures;
-      is = outputs c.args.depth c.args.parser.now c.advance.new.self c.open.new.self c.expr.new.parser c.expect.new.self c.emit.new.self c.args.table.now c.expr.new.table c.emit.new.table c.in_ok-value.value c.emit.result c.requires.1.0 a b v.is e c.emit.ensures;
+      less = less_output c.args.parser.now c.advance.new.self c.open.new.self c.expr.new.parser c.expect.new.self c.emit.new.self (start Write) (pre Open) (mark Close) c.expr.new.table c.emit.new.table (Output c.in_ok-value.value) c.args.parser.now.lookahead.place c.in_ok-value.value c.emit.result c.requires.0 a b v.less e c.emit.ensures;
+      is = outputs c.args.depth.level c.args.parser.now c.advance.new.self c.open.new.self c.expr.new.parser c.expect.new.self c.emit.new.self c.args.table.now c.expr.new.table c.emit.new.table c.in_ok-value.value c.emit.result c.args.depth.within a b v.is e c.emit.ensures;
     }

@@ -28,5 +28,5 @@ returns c =
     let k = c.loop-parser.invariant in
     record {
       less = used_both c.args.parser.now c.declaration.new.parser c.loop-parser.parser c.begin.new.parser (tt {0}) c.begin.result n.less k.fewer k.room (used_begin c.loop-parser.parser c.begin.new.parser c.begin.result c.begin.ensures);
-      is = list_end c.args.parser.now c.declaration.new.parser c.loop-parser.parser c.args.table.now c.declaration.new.table c.loop-parser.table (tt {0}) n.is k c.begin.new.parser c.begin.result (no_name (known_of c.loop-parser.parser.names) c.loop-parser.parser.token c.in_default.not-Name) c.begin.ensures;
+      is = list_end c.args.parser.now c.declaration.new.parser c.loop-parser.parser c.args.table.now c.declaration.new.table c.loop-parser.table (tt {0}) n.is k c.begin.new.parser c.begin.result (no_name (known_of c.loop-parser.parser.names) c.loop-parser.parser.lookahead.token c.in_default.not-Name) c.begin.ensures;
     }

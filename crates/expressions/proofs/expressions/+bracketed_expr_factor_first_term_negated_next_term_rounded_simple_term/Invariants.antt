@@ -33,13 +33,13 @@ abbrev pub decreases-expr : goal.decreases-expr
 decreases-expr l = 6 * unread l.parser.now + 5
 
 abbrev pub invariant-simple-loop-op : goal.invariant-simple-loop-op
-invariant-simple-loop-op l = Looped simples l.depth l.initial.left l.initial.parser l.initial.table l.left l.parser l.table
+invariant-simple-loop-op l = Looped simples l.depth.level l.initial.left l.initial.parser l.initial.table l.left l.parser l.table
 
 abbrev pub decreases-simple-loop-op : goal.decreases-simple-loop-op
 decreases-simple-loop-op l = unread l.parser
 
 abbrev pub invariant-term-loop-op : goal.invariant-term-loop-op
-invariant-term-loop-op l = Looped terms l.depth l.initial.left l.initial.parser l.initial.table l.left l.parser l.table
+invariant-term-loop-op l = Looped terms l.depth.level l.initial.left l.initial.parser l.initial.table l.left l.parser l.table
 
 abbrev pub decreases-term-loop-op : goal.decreases-term-loop-op
 decreases-term-loop-op l = unread l.parser

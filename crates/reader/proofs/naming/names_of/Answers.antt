@@ -1,6 +1,6 @@
 use Rattle.std.proofs.Common.{sym, ◌∙◌, arith}
 use Rattle.parser.specs.Feeds.{known_of}
-use Rattle.reader.proofs.NamingSteps.{ends_refused, stays, goes_on, ends_there, takes, within, too_long, spelled_as}
+use Rattle.reader.proofs.NamingSteps.{ends_refused, goes_on, ends_there, takes, within, too_long, spelled_as}
 use Rattle.reader.proofs.naming.names_of.Goals as goal
 
 pub returns-then-text-gt-MAX_TEXT : goal.returns-then-text-gt-MAX_TEXT
@@ -14,25 +14,23 @@ returns-then-not-note c =
     let bs = c.args.text.now in
     let l = c.loop-lexeme in
     let h = c.if-not-note.ensures in
-    let e = sym (ends_there l.at l.rest.now c.in-Ok.lexeme c.in-Ok.ensures l.names c.note.new.names h) ∙ l.invariant.0 ∙ sym (within bs c.if-text-gt-MAX_TEXT.false) in
-    record { is = (e, h.0); spelled = spelled_as bs (known_of c.note.new.names) e }
+    let e = sym (ends_there l.at.1.0 l.at.0.now c.in-Ok.lexeme c.in-Ok.ensures l.names c.note.new.names h) ∙ l.invariant.0 ∙ sym (within bs c.if-text-gt-MAX_TEXT.false) in
+    record { is = (e, c.note.new.names.few); spelled = spelled_as bs (known_of c.note.new.names) e }
 
 pub loop-lexeme-smaller : goal.loop-lexeme-smaller
 loop-lexeme-smaller c =
     let l = c.loop-lexeme in
-    takes l.at l.rest.now c.in-Ok.lexeme c.in-Ok.ensures l.names c.note.new.names c.if-not-note.ensures
+    takes l.at.1.0 l.at.0.now c.in-Ok.lexeme c.in-Ok.ensures l.names c.note.new.names c.if-not-note.ensures
 
 pub loop-lexeme-preserved : goal.loop-lexeme-preserved
 loop-lexeme-preserved c =
     let l = c.loop-lexeme in
     let h = c.if-not-note.ensures in
-    let s = stays l.at l.rest.now c.in-Ok.lexeme c.in-Ok.ensures l.names c.note.new.names in
-    let k = l.invariant.1 in
-    (sym (goes_on l.at l.rest.now c.in-Ok.lexeme c.in-Ok.ensures l.names c.note.new.names h) ∙ l.invariant.0, omega arith, h.0)
+    (sym (goes_on l.at.1.0 l.at.0.now c.in-Ok.lexeme c.in-Ok.ensures l.names c.note.new.names h) ∙ l.invariant.0, c.in-Ok.lexeme.end.fits)
 
 pub returns : goal.returns
 returns c =
     let bs = c.args.text.now in
     let l = c.loop-lexeme in
-    let e = sym (ends_refused l.at l.rest.now (known_of l.names) c.in_default.field-0 c.in_default.ensures) ∙ l.invariant.0 ∙ sym (within bs c.if-text-gt-MAX_TEXT.false) in
-    record { is = (e, l.invariant.2); spelled = spelled_as bs (known_of l.names) e }
+    let e = sym (ends_refused l.at.1.0 l.at.0.now (known_of l.names) c.in_default.field-0 c.in_default.ensures) ∙ l.invariant.0 ∙ sym (within bs c.if-text-gt-MAX_TEXT.false) in
+    record { is = (e, l.names.few); spelled = spelled_as bs (known_of l.names) e }

@@ -1,13 +1,14 @@
+use Rattle.std.proofs.Common.{sym}
 use Rattle.reader.proofs.Explaining.{one_tree}
 use Rattle.reader.proofs.Outcomes.{promise_yes, promise_no}
 use Rattle.reader.proofs.reading.read.Goals as goal
 
-pub returns-in-Ok : goal.returns-in-Ok
-returns-in-Ok c =
-    let x = promise_yes c.args.text.now c.in-Ok.count c.args.table.now c.clear.new.table c.read_nodes.new.table c.clear.ensures c.in-Ok.ensures in
+pub returns-then-is_err : goal.returns-then-is_err
+returns-then-is_err c =
+    let x = promise_no c.args.text.now c.read_nodes-answer.result c.args.table.now c.clear.new.table c.read_nodes-answer.new.table c.clear-then-is_err.new.table (sym c.if-is_err.ensures.value) c.clear.ensures c.read_nodes-answer.auto.table c.clear-then-is_err.ensures c.read_nodes-answer.ensures in
     record { is = x.is; table = x.table; explained = x.explained; complete = x.complete; unique = one_tree c.args.text.now }
 
-pub returns-in-Err : goal.returns-in-Err
-returns-in-Err c =
-    let x = promise_no c.args.text.now c.in-Err.refusal c.args.table.now c.clear.new.table c.read_nodes.new.table c.clear-in-Err.new.table c.clear.ensures c.read_nodes.auto.table c.clear-in-Err.ensures c.in-Err.ensures in
+pub returns-else-is_err : goal.returns-else-is_err
+returns-else-is_err c =
+    let x = promise_yes c.args.text.now c.read_nodes-answer.result c.args.table.now c.clear.new.table c.read_nodes-answer.new.table (sym c.if-is_err.ensures.value) c.clear.ensures c.read_nodes-answer.ensures in
     record { is = x.is; table = x.table; explained = x.explained; complete = x.complete; unique = one_tree c.args.text.now }

@@ -1,10 +1,12 @@
-use Rattle.std.proofs.Common.{arith}
-use borrow.Author.Tests.{true-ltb, false-ltb}
-use Rattle.parser.proofs.NameList.{nth_front, nth_behind}
+use Rattle.std.proofs.Common.{◌≡◌, ◌∙◌, take, ap}
+use Rattle.std.specs.List.{slice_get}
+use Rattle.parser.specs.Numbering.{spelled}
+use Rattle.parser.proofs.NameList.{copied_from, nth_front}
 use Rattle.parser.proofs.names.Names.spelling.Goals as goal
 
-pub returns-then-has : goal.returns-then-has
-returns-then-has c = nth_front c.args.self.now.words c.args.self.now.count c.args.n _ (omega (arith, true-ltb)) (omega (arith, true-ltb))
-
-pub returns-else-has : goal.returns-else-has
-returns-else-has c = nth_behind c.args.self.now.words c.args.self.now.count c.args.n (omega (arith, false-ltb))
+pub returns : goal.returns
+returns c =
+    let m = c.args.self.now in
+    let h = c.get.ensures.lookup in
+    let e : c.copied.result ≡ slice_get (take m.count m.words) c.args.n = rw (c.copied.ensures, ← c.known.ensures, ← c.from.ensures) (copied_from c.get.result c.known.result.now c.from.result h.0 h.1) in
+    ap spelled e ∙ nth_front m.words m.count c.args.n

@@ -1,7 +1,7 @@
 // The questions of a code table's entries.
 ghost use Rattle.std.specs.Prelude.{◌≡◌};
 ghost use Rattle.aida.specs.TemplateLaws.{addressed};
-ghost use Rattle.code.specs.Questions.{known, said as said_by, are_known, are_within};
+ghost use Rattle.code.specs.Questions.{said as said_by, are_known, are_within};
 
 use crate::table::CodeEntry;
 use aida::instructions::{Coded, Instruction};
@@ -37,7 +37,7 @@ fn is_addressed(instruction: Instruction, count: usize) -> bool
         Instruction::LoadVar(cell) | Instruction::Store(cell) | Instruction::BinaryOp(_, cell) => {
             cell <= LAST_CELL
         }
-        Instruction::Jump(target) | Instruction::Goto(target) => target as usize <= count,
+        Instruction::Jump(target) | Instruction::Goto(target) => usize::from(target) <= count,
         Instruction::LoadConst(_)
         | Instruction::UnaryOp(_)
         | Instruction::Input

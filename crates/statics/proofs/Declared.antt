@@ -1,6 +1,6 @@
 -- Declarations: each name once, and each name used. Assumes nothing.
 use Rattle.std.proofs.Common.{◌≡◌, ℕ, Bool, true, false, cond, not, eqb, ◌⊎◌, List, [], ◌∷◌, ◌++◌, Some, sym, refl, ap, ◌∙◌, subst, inl, inr, arith, eq-eqb, ne_eqb, eqb-true}
-use Rattle.std.proofs.lemmas.Bool.{false_from_ne_true, or_parts, or_cases, or_from, or_left, or_right}
+use Rattle.std.proofs.lemmas.Bool.{false_from_ne_true, or_parts, or_cases, or_from, or_left, or_right, cond_both}
 use borrow.Author.Tests.{eqb-false, not-true, not-false, both_ways}
 use Rattle.tosca.specs.Trees.{Expr, const, var, uny, bin, Cmd, skip, assign, seq, choice, loop, input, output, Decl}
 use Rattle.draft.specs.Subtrees.{expr_label, cmd_label, ExprIn, CmdIn}
@@ -17,19 +17,18 @@ Apart xs ds = (e : Decl ℕ) → Among e ds → is_name e.name xs ≡ false
 
 pub again_none : (xs : List ℕ) (ds : List (Decl ℕ)) → again xs ds ≡ [] → Apart xs ds × Distinct ds
 again_none xs [] h = (λ e i. absurd i, tt)
-again_none xs (d ∷ ds) h = by (is_name d.name xs) refl h (λ k. again_none (d.name ∷ xs) ds k)
-  where
-    by : (b : Bool) → is_name d.name xs ≡ b → cond b (d.label ∷ again (d.name ∷ xs) ds) (again (d.name ∷ xs) ds) ≡ []
-        → (again (d.name ∷ xs) ds ≡ [] → Apart (d.name ∷ xs) ds × Distinct ds) → Apart xs (d ∷ ds) × Distinct (d ∷ ds)
-    by true q h ih = let k : ◌≡◌ {A = ℕ} 0 1 = cc in absurd (omega arith)
-    by false q h ih =
-        let r = ih h in (
-          λ e i. elim i [
-            | inl p ↦ ap (λ (c : Decl ℕ). is_name c.name xs) (sym p) ∙ q
-            | inr j ↦ (or_parts (eqb e.name d.name) (is_name e.name xs) (r.0 e j)).1
-          ],
-          (λ e j p. eqb-false e.name d.name (or_parts (eqb e.name d.name) (is_name e.name xs) (r.0 e j)).0 p, r.1),
-        )
+again_none xs (d ∷ ds) h =
+    cond_both (is_name d.name xs) (d.label ∷ again (d.name ∷ xs) ds) (again (d.name ∷ xs) ds) (λ ks. ks ≡ [] → Apart xs (d ∷ ds) × Distinct (d ∷ ds))
+    (λ q h. let k : ◌≡◌ {A = ℕ} 0 1 = cc in absurd (omega arith))
+    (λ q h.
+    let r = again_none (d.name ∷ xs) ds h in (
+      λ e i. elim i [
+        | inl p ↦ ap (λ (c : Decl ℕ). is_name c.name xs) (sym p) ∙ q
+        | inr j ↦ (or_parts (eqb e.name d.name) (is_name e.name xs) (r.0 e j)).1
+      ],
+      (λ e j p. eqb-false e.name d.name (or_parts (eqb e.name d.name) (is_name e.name xs) (r.0 e j)).0 p, r.1),
+    ))
+    h
 
 pub none_again : (xs : List ℕ) (ds : List (Decl ℕ)) → Apart xs ds → Distinct ds → again xs ds ≡ []
 none_again xs [] h k = refl
@@ -41,22 +40,21 @@ none_again xs (d ∷ ds) h k =
 
 pub declared_has : (ds : List (Decl ℕ)) (x : ℕ) → is_declared (decl_of ds x) ≡ true → Declares ds x
 declared_has [] x h = false_true h
-declared_has (d ∷ ds) x h = by (eqb d.name x) refl h (λ k. declared_has ds x k)
-  where
-    by : (b : Bool) → eqb d.name x ≡ b → is_declared (cond b (Some d) (decl_of ds x)) ≡ true
-        → (is_declared (decl_of ds x) ≡ true → Declares ds x) → Declares (d ∷ ds) x
-    by true q h ih = (d, inl refl, eqb-true d.name x q)
-    by false q h ih = let r = ih h in (r.0, inr r.1, r.2)
+declared_has (d ∷ ds) x h =
+    cond_both (eqb d.name x) (Some d) (decl_of ds x) (λ o. is_declared o ≡ true → Declares (d ∷ ds) x)
+    (λ q h. (d, inl refl, eqb-true d.name x q))
+    (λ q h. let r = declared_has ds x h in (r.0, inr r.1, r.2))
+    h
 
 pub has_declared : (ds : List (Decl ℕ)) (x : ℕ) → Declares ds x → is_declared (decl_of ds x) ≡ true
 has_declared [] x r = absurd r.1
-has_declared (d ∷ ds) x r = by (eqb d.name x) refl r.1 (λ i. has_declared ds x (r.0, i, r.2))
-  where
-    by : (b : Bool) → eqb d.name x ≡ b → Among r.0 (d ∷ ds) → (Among r.0 ds → is_declared (decl_of ds x) ≡ true)
-        → is_declared (cond b (Some d) (decl_of ds x)) ≡ true
-    by true q i ih = refl
-    by false q (inl p) ih = absurd (eqb-false d.name x q (ap (λ (c : Decl ℕ). c.name) p ∙ r.2))
-    by false q (inr j) ih = ih j
+has_declared (d ∷ ds) x r =
+    cond_both (eqb d.name x) (Some d) (decl_of ds x) (λ o. is_declared o ≡ true)
+    (λ q. refl)
+    (λ q. elim r.1 [
+      | inl p ↦ absurd (eqb-false d.name x q (ap (λ (c : Decl ℕ). c.name) p ∙ r.2))
+      | inr i ↦ has_declared ds x (r.0, i, r.2)
+    ])
 
 module _ (ds : List (Decl ℕ)) (c : Cmd ℕ) where
   pub names_declared : NoneChosen (undeclared_var ds) (undeclared_target ds) c → (x : ℕ) → Names x c → Declares ds x
@@ -133,7 +131,14 @@ pub record RepeatedIn (xs : List ℕ) (ds : List (Decl ℕ)) (k : ℕ) : Type 0 
 
 pub again_repeated : (xs : List ℕ) (ds : List (Decl ℕ)) (k : ℕ) → Among k (again xs ds) → RepeatedIn xs ds k
 again_repeated xs [] k h = absurd h
-again_repeated xs (d ∷ ds) k h = by (is_name d.name xs) refl h (λ j. again_repeated (d.name ∷ xs) ds k j)
+again_repeated xs (d ∷ ds) k h =
+    cond_both (is_name d.name xs) (d.label ∷ again (d.name ∷ xs) ds) (again (d.name ∷ xs) ds) (λ ks. Among k ks → RepeatedIn xs (d ∷ ds) k)
+    (λ q i. elim i [
+      | inl e ↦ record { before = []; decl = d; rest = ds; splits = refl; earlier = inl q; node = e }
+      | inr j ↦ later (again_repeated (d.name ∷ xs) ds k j)
+    ])
+    (λ q j. later (again_repeated (d.name ∷ xs) ds k j))
+    h
   where
     later : RepeatedIn (d.name ∷ xs) ds k → RepeatedIn xs (d ∷ ds) k
     later r =
@@ -147,19 +152,9 @@ again_repeated xs (d ∷ ds) k h = by (is_name d.name xs) refl h (λ j. again_re
             ]
         here (inr e) = inr (e.0, inr e.1, e.2)
 
-    by : (b : Bool) → is_name d.name xs ≡ b → Among k (cond b (d.label ∷ again (d.name ∷ xs) ds) (again (d.name ∷ xs) ds))
-        → (Among k (again (d.name ∷ xs) ds) → RepeatedIn (d.name ∷ xs) ds k) → RepeatedIn xs (d ∷ ds) k
-    by true q (inl e) ih = record { before = []; decl = d; rest = ds; splits = refl; earlier = inl q; node = e }
-    by true q (inr j) ih = later (ih j)
-    by false q j ih = later (ih j)
-
 -- more of the list is found whatever the test of its head
 passed : (xs : List ℕ) (d : Decl ℕ) (ds : List (Decl ℕ)) (k : ℕ) → Among k (again (d.name ∷ xs) ds) → Among k (again xs (d ∷ ds))
-passed xs d ds k h = by (is_name d.name xs)
-  where
-    by : (b : Bool) → Among k (cond b (d.label ∷ again (d.name ∷ xs) ds) (again (d.name ∷ xs) ds))
-    by true = inr h
-    by false = h
+passed xs d ds k h = cond_both (is_name d.name xs) (d.label ∷ again (d.name ∷ xs) ds) (again (d.name ∷ xs) ds) (Among k) (λ q. inr h) (λ q. h)
 
 pub repeated_again : (xs : List ℕ) (before : List (Decl ℕ)) (d : Decl ℕ) (rest : List (Decl ℕ))
     → (is_name d.name xs ≡ true) ⊎ Declares before d.name → Among d.label (again xs (before ++ (d ∷ rest)))

@@ -1,6 +1,6 @@
 -- One pass over a formed table from its first entry finds the lowest node that tests choose. Assumes nothing.
 use Rattle.std.proofs.Common.{◌≡◌, ℕ, zero, suc, ◌+◌, ◌<◌, ◌≤◌, Bool, true, false, cond, ◌⊎◌, List, [], ◌∷◌, length, get_or, Some, None, Option, sym, refl, ap, ◌∙◌, subst, inl, inr, arith}
-use Rattle.std.proofs.lemmas.Bool.{both_ways, false≢true}
+use Rattle.std.proofs.lemmas.Bool.{both_ways, false≢true, cond_both}
 use Rattle.tosca.specs.declared.table.Entry.{Entry}
 use Rattle.tosca.specs.declared.table.Node.{Node}
 use Rattle.tosca.specs.declared.table.Node.TheVariants.{Decl, Const, Var, Uny, Bin, Skip, Assign, Seq, Choice, Loop, Input, Output, Program}
@@ -122,11 +122,11 @@ decls_rise n (e ∷ t) = by (node e) (decls_rise (suc n) t)
 
 pub again_rises : (n : ℕ) (xs : List ℕ) (ds : List (tree.Decl ℕ)) → Rising n (labels ds) → Rising n (again xs ds)
 again_rises n xs [] r = tt
-again_rises n xs (d ∷ ds) r = by (is_name d.name xs) (again_rises (suc d.label) (d.name ∷ xs) ds r.1)
-  where
-    by : (b : Bool) → Rising (suc d.label) (again (d.name ∷ xs) ds) → Rising n (cond b (d.label ∷ again (d.name ∷ xs) ds) (again (d.name ∷ xs) ds))
-    by true q = (r.0, q)
-    by false q = rising_from n (suc d.label) (again (d.name ∷ xs) ds) (omega (arith, r.0)) q
+again_rises n xs (d ∷ ds) r =
+    let q = again_rises (suc d.label) (d.name ∷ xs) ds r.1 in
+    cond_both (is_name d.name xs) (d.label ∷ again (d.name ∷ xs) ds) (again (d.name ∷ xs) ds) (Rising n)
+    (λ e. (r.0, q))
+    (λ e. rising_from n (suc d.label) (again (d.name ∷ xs) ds) (omega (arith, r.0)) q)
 
 -- the lowest declaration of a name that an earlier one has is the first
 pub again_first : (t : List Entry) → lowest (again [] (program_of t).decls) ≡ head_of (again [] (decls_from 0 t))

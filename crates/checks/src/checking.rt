@@ -43,13 +43,19 @@ fn ask(draft: &Draft, rule: Rule) -> Result<(), Violation>
     fault(draft, rule).map_or(Ok(()), |node| Err(Violation { rule, node }))
 }
 
+fn ask_each(draft: &Draft, rules: &[Rule]) -> Result<(), Violation>
+    ensures { result ≡ first_no rules.now (tree_of draft.now) }
+{
+    for rule in rules {
+        ask(draft, *rule)?;
+    }
+    Ok(())
+}
+
 fn ask_all(draft: &Draft) -> Result<(), Violation>
     ensures { result ≡ first_no (DeclaredOnce ∷ Declared ∷ Typed ∷ Set ∷ Temporaries ∷ []) (tree_of draft.now) }
 {
-    for rule in RULES {
-        ask(draft, rule)?;
-    }
-    Ok(())
+    ask_each(draft, &RULES)
 }
 
 // Asks a draft the static rules: yes, or the first rule that is broken and the lowest node at fault.

@@ -116,13 +116,23 @@ impl Reads<'_> {
         }
     }
 
+    // A variable is set after the expression is worked out.
+    fn assigned(&self, name: u16, a: u16, before: Names) -> Flow
+        requires named { name < 64 }
+        requires value { IsNode (entries_of self.now.draft.now) a is_expr }
+        ensures set { result.set ≡ bit_or before (2 ^ name) }
+        ensures fault { result.fault ≡ lowest (unset_nodes (holds before) (expr_at (entries_of self.now.draft.now) a)) }
+    {
+        self.value(a, before).setting(name)
+    }
+
     // What the command n comes to where the variables of a set are set before it.
     fn follow(&self, n: u16, before: Names) -> Flow
         requires { IsNode (entries_of self.now.draft.now) n is_cmd }
         ensures { Comes (cmd_at (entries_of self.now.draft.now) n) (holds before) result.set result.fault }
     {
         match node_at(self.draft, n) {
-            Node::Assign(name, a) => self.value(a, before).setting(name),
+            Node::Assign(name, a) => self.assigned(name, a, before),
             Node::Seq(a, b) => {
                 let first = self.follow(a, before);
                 first.then(self.follow(b, first.set))

@@ -35,17 +35,17 @@ pub(crate) fn command(draft: &Draft, typing: &Typing, n: u16, code: &mut Emitter
             let to_else = code.reserve();
             command(draft, typing, b, code);
             let to_end = code.reserve();
-            code.write(to_else, n, Instruction::Jump(code.next));
+            code.jump_here(to_else, n);
             command(draft, typing, c, code);
-            code.write(to_end, n, Instruction::Goto(code.next));
+            code.go_here(to_end, n);
         }
         Node::Loop(a, b) => {
             let start = code.next;
             expression(draft, a, TEMPORARIES, code);
             let out = code.reserve();
             command(draft, typing, b, code);
-            code.emit(n, Instruction::Goto(start));
-            code.write(out, n, Instruction::Jump(code.next));
+            code.go_back(start, n);
+            code.jump_here(out, n);
         }
         Node::Input(name) => {
             code.emit(n, input_by(typing, name));

@@ -1,5 +1,6 @@
 // Writing code into a lent table.
 ghost use Rattle.std.specs.Prelude.{◌≡◌, ◌<◌, [], ◌∷◌};
+ghost use Rattle.aida.specs.declared.instructions.Instruction.TheVariants.{Jump, Goto};
 ghost use Rattle.aida.specs.Templates.{coded};
 ghost use Rattle.translator.specs.Emitting.{Stores, Emitted};
 
@@ -17,7 +18,7 @@ pub(crate) struct Emitter<'a> {
 
 impl Emitter<'_> {
     // Writes the instruction of a number. Past the end of the table it writes nothing.
-    pub(crate) fn write(&mut self, at: u16, node: u16, instruction: Instruction)
+    fn write(&mut self, at: u16, node: u16, instruction: Instruction)
         ensures { Stores self.old at (coded node instruction ∷ []) 0 self.new }
     {
         let at = at as usize;
@@ -44,5 +45,29 @@ impl Emitter<'_> {
         let number = self.next;
         self.next += 1;
         number
+    }
+
+    // Jumps and gotos have a function each, so that a wrong target is refused at its own.
+
+    // The reserved instruction is a jump to the next instruction.
+    pub(crate) fn jump_here(&mut self, reserved: u16, node: u16)
+        ensures { Stores self.old reserved (coded node (Jump self.old.next) ∷ []) 0 self.new }
+    {
+        self.write(reserved, node, Instruction::Jump(self.next));
+    }
+
+    // The reserved instruction goes to the next instruction.
+    pub(crate) fn go_here(&mut self, reserved: u16, node: u16)
+        ensures { Stores self.old reserved (coded node (Goto self.old.next) ∷ []) 0 self.new }
+    {
+        self.write(reserved, node, Instruction::Goto(self.next));
+    }
+
+    // Goes back to the instruction of a number.
+    pub(crate) fn go_back(&mut self, start: u16, node: u16)
+        requires { self.old.next < 2048 }
+        ensures { Emitted self.old (coded node (Goto start) ∷ []) self.new }
+    {
+        self.emit(node, Instruction::Goto(start));
     }
 }

@@ -37,7 +37,7 @@ reserve-to_end-requires t c = choice_goto _ c.args.draft.now.formed (types_of c.
 
 pub command-requires-in-Choice-2 : goal.command-requires-in-Choice-2
 command-requires-in-Choice-2 t c =
-    let f = choice_else _ c.args.draft.now.formed (types_of c.args.typing.now) c.args.code.now c.requires c.in-Choice.ensures c.expression-in-Choice.ensures c.reserve-to_else.ensures.skips c.command-in-Choice.ensures c.reserve-to_end.ensures.skips c.write.ensures in
+    let f = choice_else _ c.args.draft.now.formed (types_of c.args.typing.now) c.args.code.now c.requires c.in-Choice.ensures c.expression-in-Choice.ensures c.reserve-to_else.ensures.skips c.command-in-Choice.ensures c.reserve-to_end.ensures.skips c.jump_here.ensures in
     (omega (arith, c.decreases, f.0), f.1)
 
 pub expression-requires-in-Loop : goal.expression-requires-in-Loop
@@ -51,8 +51,8 @@ command-requires-in-Loop t c =
     let f = loop_body _ c.args.draft.now.formed (types_of c.args.typing.now) c.args.code.now c.requires c.in-Loop.ensures c.expression-in-Loop.ensures c.reserve-out.ensures.skips in
     (omega (arith, c.decreases, f.0), f.1)
 
-pub emit-requires-in-Loop : goal.emit-requires-in-Loop
-emit-requires-in-Loop t c = loop_back _ c.args.draft.now.formed (types_of c.args.typing.now) c.args.code.now c.requires c.in-Loop.ensures c.expression-in-Loop.ensures c.reserve-out.ensures.skips c.command-in-Loop.ensures
+pub go_back-requires : goal.go_back-requires
+go_back-requires t c = loop_back _ c.args.draft.now.formed (types_of c.args.typing.now) c.args.code.now c.requires c.in-Loop.ensures c.expression-in-Loop.ensures c.reserve-out.ensures.skips c.command-in-Loop.ensures
 
 pub input_by-requires : goal.input_by-requires
 input_by-requires t c =
@@ -87,10 +87,10 @@ returns-in-Seq t c =
     seq_done _ c.args.draft.now.formed (types_of c.args.typing.now) c.args.code.now c.requires c.in-Seq.ensures c.command.ensures c.command-in-Seq.ensures
 
 pub returns-in-Choice : goal.returns-in-Choice
-returns-in-Choice t c = choice_done _ c.args.draft.now.formed (types_of c.args.typing.now) c.args.code.now c.requires c.in-Choice.ensures c.expression-in-Choice.ensures c.reserve-to_else.ensures.skips c.command-in-Choice.ensures c.reserve-to_end.ensures.skips c.write.ensures c.command-in-Choice-2.ensures c.reserve-to_else.ensures.number c.reserve-to_end.ensures.number c.write-in-Choice.ensures
+returns-in-Choice t c = choice_done _ c.args.draft.now.formed (types_of c.args.typing.now) c.args.code.now c.requires c.in-Choice.ensures c.expression-in-Choice.ensures c.reserve-to_else.ensures.skips c.command-in-Choice.ensures c.reserve-to_end.ensures.skips c.jump_here.ensures c.command-in-Choice-2.ensures c.reserve-to_else.ensures.number c.reserve-to_end.ensures.number c.go_here.ensures
 
 pub returns-in-Loop : goal.returns-in-Loop
-returns-in-Loop t c = loop_done _ c.args.draft.now.formed (types_of c.args.typing.now) c.args.code.now c.requires c.in-Loop.ensures c.expression-in-Loop.ensures c.reserve-out.ensures.skips c.command-in-Loop.ensures c.emit-in-Loop.ensures c.reserve-out.ensures.number c.write-in-Loop.ensures
+returns-in-Loop t c = loop_done _ c.args.draft.now.formed (types_of c.args.typing.now) c.args.code.now c.requires c.in-Loop.ensures c.expression-in-Loop.ensures c.reserve-out.ensures.skips c.command-in-Loop.ensures c.go_back.ensures c.reserve-out.ensures.number c.jump_here-in-Loop.ensures
 
 pub returns-in-Input : goal.returns-in-Input
 returns-in-Input t c =

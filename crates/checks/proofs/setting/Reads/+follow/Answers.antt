@@ -4,13 +4,10 @@ use Rattle.checks.proofs.Unset.{part}
 use Rattle.checks.proofs.Flows.{assign_comes, seq_comes, choice_comes, loop_comes, input_comes, output_comes, other_comes}
 use Rattle.checks.proofs.setting.Reads.+follow.Goals as goal
 
-pub value-requires : goal.value-requires
-value-requires t c =
+pub assigned-requires : goal.assigned-requires
+assigned-requires t c =
     let f = assign_fact _ c.args.self.now.draft.now.formed _ c.requires.below c.in-Assign.ensures in
-    part c.requires f.1 f.2
-
-pub setting-requires : goal.setting-requires
-setting-requires t c = (assign_fact _ c.args.self.now.draft.now.formed _ c.requires.below c.in-Assign.ensures).0
+    record { named = f.0; value = part c.requires f.1 f.2 }
 
 pub follow-first-requires : goal.follow-first-requires
 follow-first-requires t c =
@@ -32,8 +29,8 @@ follow-no-requires t c =
     let f = choice_fact _ c.args.self.now.draft.now.formed _ c.requires.below c.in-Choice.ensures in
     (omega (arith, c.decreases, f.4), part c.requires f.4 f.5)
 
-pub value-requires-in-Choice : goal.value-requires-in-Choice
-value-requires-in-Choice t c =
+pub value-requires : goal.value-requires
+value-requires t c =
     let f = choice_fact _ c.args.self.now.draft.now.formed _ c.requires.below c.in-Choice.ensures in
     part c.requires f.0 f.1
 
@@ -47,8 +44,8 @@ follow-requires-in-Loop t c =
     let f = loop_fact _ c.args.self.now.draft.now.formed _ c.requires.below c.in-Loop.ensures in
     (omega (arith, c.decreases, f.2), part c.requires f.2 f.3)
 
-pub setting-requires-in-Input : goal.setting-requires-in-Input
-setting-requires-in-Input t c = input_fact _ c.args.self.now.draft.now.formed _ c.requires.below c.in-Input.ensures
+pub setting-requires : goal.setting-requires
+setting-requires t c = input_fact _ c.args.self.now.draft.now.formed _ c.requires.below c.in-Input.ensures
 
 pub value-requires-in-Output : goal.value-requires-in-Output
 value-requires-in-Output t c =
@@ -56,13 +53,13 @@ value-requires-in-Output t c =
     part c.requires f.0 f.1
 
 pub returns-in-Assign : goal.returns-in-Assign
-returns-in-Assign t c = assign_comes _ c.args.self.now.draft.now.formed _ c.requires.below c.args.before c.in-Assign.ensures (cc) (cc)
+returns-in-Assign t c = assign_comes _ c.args.self.now.draft.now.formed _ c.requires.below c.args.before c.in-Assign.ensures c.assigned.ensures.set c.assigned.ensures.fault
 
 pub returns-in-Seq : goal.returns-in-Seq
 returns-in-Seq t c = seq_comes _ c.args.self.now.draft.now.formed _ c.requires.below c.args.before c.in-Seq.ensures c.follow-first.ensures c.follow.ensures c.then.ensures.set c.then.ensures.fault
 
 pub returns-in-Choice : goal.returns-in-Choice
-returns-in-Choice t c = choice_comes _ c.args.self.now.draft.now.formed _ c.requires.below c.args.before c.in-Choice.ensures c.value-in-Choice.ensures.fault c.follow-yes.ensures c.follow-no.ensures (cc) (cc)
+returns-in-Choice t c = choice_comes _ c.args.self.now.draft.now.formed _ c.requires.below c.args.before c.in-Choice.ensures c.value.ensures.fault c.follow-yes.ensures c.follow-no.ensures (cc) (cc)
 
 pub returns-in-Loop : goal.returns-in-Loop
 returns-in-Loop t c = loop_comes _ c.args.self.now.draft.now.formed _ c.requires.below c.args.before c.in-Loop.ensures c.value-in-Loop.ensures.fault c.follow-in-Loop.ensures (cc) c.repeating.ensures.fault

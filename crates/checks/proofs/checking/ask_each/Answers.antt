@@ -2,7 +2,7 @@ use Rattle.std.proofs.Common.{sym, ◌∙◌}
 use Rattle.std.proofs.lemmas.Result.{err_from_is_err_and}
 use Rattle.draft.specs.Opening.{tree_of}
 use Rattle.checks.proofs.Rules.{rule_kept, rule_broken}
-use Rattle.checks.proofs.checking.ask_all.Goals as goal
+use Rattle.checks.proofs.checking.ask_each.Goals as goal
 
 pub returns-in_err-ask : goal.returns-in_err-ask
 returns-in_err-ask c =

@@ -4,11 +4,11 @@ use tosca::operators::SimpleType;
 // Why an expression has no type.
 #[derive(Clone, Copy, PartialEq, Debug)]
 pub enum TypeError {
-    // an operand is wrong or at fault
+    // a name has no type, or an operand is wrong or at fault
     Wrong,
     // its operands are right, and the operator does not take them
     AtFault,
 }
 
-// It is right, and of this type, or it has none.
+// The type of an expression that is right, or why it has none.
 pub type Verdict = Result<SimpleType, TypeError>;

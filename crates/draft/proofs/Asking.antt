@@ -15,7 +15,7 @@ pub known_all : (t : List Entry) → are_known t ≡ list_all known t
 known_all [] = refl
 known_all (e ∷ t) = ap (λ b. known e && b) (known_all t)
 
--- an array's iterator, and one through the parts that there are
+-- what an array's iterator gives
 pub YieldsList-from_array : {A : Type 0} {n : ℕ} {s : IntoIter A n} (xs : List A) → array_into_iter_items s ≡ xs → YieldsList array_steps (λ x. x) s xs
 YieldsList-from_array {A} {n} {s} xs e = subst (YieldsList array_steps (λ x. x) s) e (YieldsList-from_shown array_steps (λ x. x) array_into_iter_items (λ s t h. h.0) (λ s x t h. h) s)
 

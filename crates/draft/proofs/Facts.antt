@@ -1,6 +1,6 @@
 -- What the entries of a formed table say, one by one, and the trees at them. Assumes nothing.
-use Rattle.std.proofs.Common.{◌≡◌, ℕ, zero, suc, ◌+◌, ◌-◌, ◌<◌, ◌≤◌, Bool, true, false, cond, eqb, ltb, ◌⊎◌, List, [], ◌∷◌, length, get_or, Some, None, Option, sym, refl, ap, ◌∙◌, subst, inl, inr, add-zero, add-suc, suc-add, zero-add, arith}
-use Rattle.std.proofs.lemmas.Bool.{and_parts, ltb-true, ltb-false, leb-true, eqb-true, eqb-false, not-true, false≢true, cases_Bool, cond-true, cond-false}
+use Rattle.std.proofs.Common.{◌≡◌, ℕ, zero, suc, ◌+◌, ◌-◌, ◌<◌, Bool, true, false, cond, eqb, ltb, ◌⊎◌, List, [], ◌∷◌, length, get_or, Some, None, Option, sym, refl, ap, ◌∙◌, subst, inl, inr, add-zero, add-suc, suc-add, zero-add, arith}
+use Rattle.std.proofs.lemmas.Bool.{and_parts, ltb-true, ltb-false, eqb-true, eqb-false, not-true, false≢true, cases_Bool}
 use Rattle.tosca.specs.declared.operators.SimpleType.{SimpleType}
 use Rattle.tosca.specs.declared.operators.Value.{Value}
 use Rattle.tosca.specs.declared.operators.Unary.{Unary}
@@ -11,7 +11,7 @@ use Rattle.tosca.specs.declared.table.Node.TheVariants.{Decl, Const, Var, Uny, B
 use Rattle.tosca.specs.Table.{blank, node}
 use Rattle.tosca.specs.Trees.{const, var, uny, bin, skip, assign, seq, choice, loop, input, output}
 use Rattle.tosca.specs.Decode.{expr_at, cmd_at, body_of, program_of}
-use Rattle.tosca.specs.Opens.{Sort, is_decl, is_expr, is_cmd, is_program, is_none, sort, sort_code, same_sort, Part, parts, few_names, known_node, known, are_known, placed, are_placed, uses, all_uses, once, are_once, no_decl, decls_first, program_last, arranged}
+use Rattle.tosca.specs.Opens.{Sort, is_decl, is_expr, is_cmd, is_program, is_none, sort, sort_code, same_sort, Part, parts, few_names, known_node, known, are_known, placed, are_placed, uses, all_uses, once, are_once, decls_first, program_last, arranged}
 use Rattle.tosca.proofs.Decoding.{expr_const, expr_var, expr_uny, expr_bin, cmd_skip, cmd_assign, cmd_seq, cmd_choice, cmd_loop, cmd_input, cmd_output}
 use Rattle.draft.specs.Forming.{is_formed}
 
@@ -66,21 +66,6 @@ once_at t j (e ∷ es) h zero l = ap (λ (k : ℕ). once t k (sort (node e))) (a
 once_at t j (e ∷ es) h (suc n) l =
     ap (λ (k : ℕ). once t k (sort (node (get_or es n blank)))) (add-suc j n ∙ sym (suc-add j n)) ∙ once_at t (suc j) es (and_parts _ _ h).1 n (omega arith)
 
-no_decl_lem : (t : List Entry) → no_decl t ≡ true → (n : ℕ) → n < length t → sort (node (get_or t n blank)) ≡ is_decl → ⊥
-no_decl_lem [] h n l e = omega arith
-no_decl_lem (d ∷ t) h zero l e = sorts_apart (sort (node d)) is_decl (not-true _ (and_parts _ _ h).0) e
-no_decl_lem (d ∷ t) h (suc n) l e = no_decl_lem t (and_parts _ _ h).1 n (omega arith) e
-
-first_decls : (t : List Entry) → decls_first t ≡ true → (m n : ℕ) → m < n → n < length t → sort (node (get_or t n blank)) ≡ is_decl → sort (node (get_or t m blank)) ≡ is_decl
-first_decls [] h m n l k e = absurd (omega arith)
-first_decls (d ∷ t) h m zero l k e = absurd (omega arith)
-first_decls (d ∷ t) h m (suc n) l k e = by (cases_Bool (same_sort (sort (node d)) is_decl)) m l (λ y j i. first_decls t y j n i (omega arith) e)
-  where
-    by : (same_sort (sort (node d)) is_decl ≡ true) ⊎ (same_sort (sort (node d)) is_decl ≡ false) → (m : ℕ) → m < suc n → (decls_first t ≡ true → (j : ℕ) → j < n → sort (node (get_or t j blank)) ≡ is_decl) → sort (node (get_or (d ∷ t) m blank)) ≡ is_decl
-    by (inl y) zero l r = same_sort_lem (sort (node d)) is_decl y
-    by (inl y) (suc m) l r = r (sym (cond-true _ (decls_first t) (no_decl t) y) ∙ h) m (omega arith)
-    by (inr y) m l r = absurd (no_decl_lem t (sym (cond-false _ (decls_first t) (no_decl t) y) ∙ h) n (omega arith) e)
-
 program_at_end : (t : List Entry) → program_last t ≡ true → (n : ℕ) → suc n ≡ length t → sort (node (get_or t n blank)) ≡ is_program
 program_at_end [] h n e = absurd (omega arith)
 program_at_end (d ∷ []) h zero e = same_sort_lem (sort (node d)) is_program h
@@ -123,20 +108,20 @@ occurs_at i (e ∷ t) h = by (uses i (parts (node e))) refl h (occurs_at i t)
 
 -- the kinds of each sort
 pub program_node : (o : Option Node) → sort o ≡ is_program → (a : ℕ) × (o ≡ Some (Program a))
-program_node (Some (Decl x y)) e = absurd (sorts_apart is_decl is_program refl e)
-program_node (Some (Const v)) e = absurd (sorts_apart is_expr is_program refl e)
-program_node (Some (Var x)) e = absurd (sorts_apart is_expr is_program refl e)
-program_node (Some (Uny o a)) e = absurd (sorts_apart is_expr is_program refl e)
-program_node (Some (Bin a o b)) e = absurd (sorts_apart is_expr is_program refl e)
-program_node (Some Skip) e = absurd (sorts_apart is_cmd is_program refl e)
-program_node (Some (Assign x a)) e = absurd (sorts_apart is_cmd is_program refl e)
-program_node (Some (Seq a b)) e = absurd (sorts_apart is_cmd is_program refl e)
-program_node (Some (Choice a b c)) e = absurd (sorts_apart is_cmd is_program refl e)
-program_node (Some (Loop a b)) e = absurd (sorts_apart is_cmd is_program refl e)
-program_node (Some (Input x)) e = absurd (sorts_apart is_cmd is_program refl e)
-program_node (Some (Output a)) e = absurd (sorts_apart is_cmd is_program refl e)
+program_node (Some (Decl x y)) e = cc
+program_node (Some (Const v)) e = cc
+program_node (Some (Var x)) e = cc
+program_node (Some (Uny o a)) e = cc
+program_node (Some (Bin a o b)) e = cc
+program_node (Some Skip) e = cc
+program_node (Some (Assign x a)) e = cc
+program_node (Some (Seq a b)) e = cc
+program_node (Some (Choice a b c)) e = cc
+program_node (Some (Loop a b)) e = cc
+program_node (Some (Input x)) e = cc
+program_node (Some (Output a)) e = cc
 program_node (Some (Program a)) e = (a, refl)
-program_node None e = absurd (sorts_apart is_none is_program refl e)
+program_node None e = cc
 
 known_node_lem : (o : Option Node) → known_node o ≡ true → (m : Node) × (o ≡ Some m)
 known_node_lem (Some m) h = (m, refl)
@@ -169,9 +154,6 @@ module _ (t : List Entry) (formed : is_formed t ≡ true) (n : ℕ) (lt : n < le
 
   pub some_node : (m : Node) × (node (get_or t n blank) ≡ Some m)
   some_node = known_node_lem (node (get_or t n blank)) (and_parts _ _ knows).0
-
-  pub place_fact : (get_or t n blank).place ≤ 16384
-  place_fact = leb-true (get_or t n blank).place 16384 (and_parts (known_node (node (get_or t n blank))) _ knows).1
 
   few_names_lem : (m : Node) → node (get_or t n blank) ≡ Some m → few_names m ≡ true
   few_names_lem m e = sym (ap known_node e) ∙ (and_parts _ _ knows).0
@@ -252,10 +234,6 @@ module _ (t : List Entry) (formed : is_formed t ≡ true) (n : ℕ) (lt : n < le
 
   pub cmd_part : sort (node (get_or t n blank)) ≡ is_cmd → (k : ℕ) × (k < length t) × Occurs n (parts (node (get_or t k blank)))
   cmd_part e = occurs_at n t (omega (arith, cmd_once e))
-
-  -- declarations come first
-  pub decl_first : (m : ℕ) → m < n → sort (node (get_or t n blank)) ≡ is_decl → sort (node (get_or t m blank)) ≡ is_decl
-  decl_first m l e = first_decls t (and_parts (decls_first t) _ (is_arranged t formed)).0 m n l lt e
 
   -- the tree at the entry, by its kind
   pub expr_at_const : {v : Value} → node (get_or t n blank) ≡ Some (Const v) → expr_at t n ≡ const n v

@@ -71,16 +71,16 @@ expr_cases (Some (Const v)) e k = k.a_const v refl
 expr_cases (Some (Var x)) e k = k.a_var x refl
 expr_cases (Some (Uny o a)) e k = k.a_uny o a refl
 expr_cases (Some (Bin a o b)) e k = k.a_bin a o b refl
-expr_cases (Some (Decl x y)) e k = absurd (sorts_apart is_decl is_expr refl e)
-expr_cases (Some Skip) e k = absurd (sorts_apart is_cmd is_expr refl e)
-expr_cases (Some (Assign x a)) e k = absurd (sorts_apart is_cmd is_expr refl e)
-expr_cases (Some (Seq a b)) e k = absurd (sorts_apart is_cmd is_expr refl e)
-expr_cases (Some (Choice a b c)) e k = absurd (sorts_apart is_cmd is_expr refl e)
-expr_cases (Some (Loop a b)) e k = absurd (sorts_apart is_cmd is_expr refl e)
-expr_cases (Some (Input x)) e k = absurd (sorts_apart is_cmd is_expr refl e)
-expr_cases (Some (Output a)) e k = absurd (sorts_apart is_cmd is_expr refl e)
-expr_cases (Some (Program a)) e k = absurd (sorts_apart is_program is_expr refl e)
-expr_cases None e k = absurd (sorts_apart is_none is_expr refl e)
+expr_cases (Some (Decl x y)) e k = cc
+expr_cases (Some Skip) e k = cc
+expr_cases (Some (Assign x a)) e k = cc
+expr_cases (Some (Seq a b)) e k = cc
+expr_cases (Some (Choice a b c)) e k = cc
+expr_cases (Some (Loop a b)) e k = cc
+expr_cases (Some (Input x)) e k = cc
+expr_cases (Some (Output a)) e k = cc
+expr_cases (Some (Program a)) e k = cc
+expr_cases None e k = cc
 
 -- the kinds of a command
 pub record CmdCases (o : Option Node) (P : Type 0) : Type 0 where
@@ -100,13 +100,13 @@ cmd_cases (Some (Choice a b c)) e k = k.a_choice a b c refl
 cmd_cases (Some (Loop a b)) e k = k.a_loop a b refl
 cmd_cases (Some (Input x)) e k = k.an_input x refl
 cmd_cases (Some (Output a)) e k = k.an_output a refl
-cmd_cases (Some (Decl x y)) e k = absurd (sorts_apart is_decl is_cmd refl e)
-cmd_cases (Some (Const v)) e k = absurd (sorts_apart is_expr is_cmd refl e)
-cmd_cases (Some (Var x)) e k = absurd (sorts_apart is_expr is_cmd refl e)
-cmd_cases (Some (Uny o a)) e k = absurd (sorts_apart is_expr is_cmd refl e)
-cmd_cases (Some (Bin a o b)) e k = absurd (sorts_apart is_expr is_cmd refl e)
-cmd_cases (Some (Program a)) e k = absurd (sorts_apart is_program is_cmd refl e)
-cmd_cases None e k = absurd (sorts_apart is_none is_cmd refl e)
+cmd_cases (Some (Decl x y)) e k = cc
+cmd_cases (Some (Const v)) e k = cc
+cmd_cases (Some (Var x)) e k = cc
+cmd_cases (Some (Uny o a)) e k = cc
+cmd_cases (Some (Bin a o b)) e k = cc
+cmd_cases (Some (Program a)) e k = cc
+cmd_cases None e k = cc
 
 -- a tree stands in itself, and what stands in a part stands in the whole
 pub in_self : (e : Expr ℕ) → InExpr e e

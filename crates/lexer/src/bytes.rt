@@ -10,7 +10,8 @@ pub(crate) fn is_blank(b: u8) -> bool
     matches!(b, b' ' | b'\t' | b'\r' | b'\n')
 }
 
-// How many letters and digits stand at the front.
+// How many letters and digits stand at the front. A function for this and one for digits, since one that took
+// the test would have to say what it counts of a test that it cannot see.
 pub(crate) fn word_length(text: &[u8]) -> usize
     ensures is { result ≡ run alphanumeric text.now }
     ensures within { result ≤ length text.now }

@@ -1,5 +1,5 @@
 -- The numbers of names.
-use Rattle.std.proofs.Common.{◌≡◌, ℕ, suc, ◌<◌, ◌≤◌, Bool, true, false, cond, ltb, ◌⊎◌, ◌↔◌, List, [], ◌∷◌, ◌++◌, length, drop, sym, refl, ap, ◌∙◌, subst, inl, inr, ⊎_elim, arith, length-append, ltb-false, ltb-true, lt-ltb}
+use Rattle.std.proofs.Common.{◌≡◌, ℕ, suc, ◌<◌, ◌≤◌, Bool, true, false, cond, ltb, ◌⊎◌, ◌↔◌, List, [], ◌∷◌, ◌++◌, length, drop, sym, refl, ap, ◌∙◌, subst, inl, inr, ⊎_elim, arith, length-append, ltb-false, ltb-true}
 use borrow.Author.Tests.{clash}
 use Rattle.std.proofs.lemmas.Slice.Eq.{bytes_eq-Decides}
 use Rattle.grammar.specs.Tokens as g
@@ -34,9 +34,6 @@ pub noted_within : (w : List ℕ) (xs : List (List ℕ)) → index w (noted w xs
 noted_within w xs =
     by_cond (λ ys. index w ys < length ys) (ltb (index w xs) (length xs)) xs (xs ++ (w ∷ [])) (λ h. ltb-true (index w xs) (length xs) h)
     (λ _. let n = index_end w xs in let l = length-append xs (w ∷ []) in let i = index_within w xs in omega arith)
-
-pub noted_noted : (w : List ℕ) (xs : List (List ℕ)) → noted w (noted w xs) ≡ noted w xs
-noted_noted w xs = ap (λ b. cond b (noted w xs) (noted w xs ++ (w ∷ []))) (lt-ltb (index w (noted w xs)) (length (noted w xs)) (noted_within w xs))
 
 index_past : (b : Bool) (n m : ℕ) → cond b 0 (suc n) ≡ suc m → (b ≡ false) × (n ≡ m)
 index_past true n m h = absurd (omega arith)

@@ -188,9 +188,6 @@ shorter p bs = from_gap p (p + length bs) (skip p bs) (left outside p (p + lengt
 pub shorter_of : (p : ℕ) (bs : List ℕ) {x : Lexed} → lex p bs ≡ x → Bounded p (p + length bs) x
 shorter_of p bs {x} h = rw (← h) (shorter p bs)
 
-pub two_only : (p : ℕ) (bs : List ℕ) {n q : ℕ} → lex p bs ≡ none n q → (n ≡ 2) × (p ≤ q) × (q < p + length bs)
-two_only p bs h = shorter_of p bs h
-
 -- Scans
 
 -- s is the scan of the bytes bs, which begin at p
@@ -225,9 +222,6 @@ same_by (suc f) p bs s h (stops {r} {q} {a} {cs} k st) = ap (λ x. onward x (λ 
 same_by (suc f) p bs s h (goes {r} {q} {a} {cs} {s = t} k go d) =
     let l = fewer p bs k go in
     ap (λ x. onward x (λ a cs. scan_by f a cs)) k ∙ ap (λ b. more r q (cond b over (scan_by f a cs))) go ∙ ap (more r q) (same_by f a cs t (omega arith) d)
-
-pub scan_is : {p : ℕ} {bs : List ℕ} {s : Scan} → Scans p bs s → scan p bs ≡ s
-scan_is {p} {bs} {s} d = same_by (suc (length bs)) p bs s (omega arith) d
 
 same_on : (p : ℕ) (bs : List ℕ) (f g : ℕ → List ℕ → Scan) → ((a : ℕ) (cs : List ℕ) → length cs < length bs → f a cs ≡ g a cs) → (x : Lexed) → lex p bs ≡ x → onward x f ≡ onward x g
 same_on p bs f g on (none n q) h = refl

@@ -1,6 +1,6 @@
 // Bytes: blanks, and the number that digits spell.
-ghost use Rattle.std.specs.Prelude.{◌≡◌, ◌≤◌, length};
-ghost use Rattle.lexer.specs.Spelling.{alphanumeric, blank, digit, run};
+ghost use Rattle.std.specs.Prelude.{◌≡◌, ℕ, Bool, ◌≤◌, length};
+ghost use Rattle.lexer.specs.Spelling.{blank, run};
 ghost use Rattle.lexer.specs.Limited.{decimal, number_within};
 ghost use Rattle.lexer.specs.Digits.{longer};
 
@@ -10,22 +10,13 @@ pub(crate) fn is_blank(b: u8) -> bool
     matches!(b, b' ' | b'\t' | b'\r' | b'\n')
 }
 
-// How many letters and digits stand at the front.
-pub(crate) fn word_length(text: &[u8]) -> usize
-    ensures is { result ≡ run alphanumeric text.now }
+// How many bytes at the front pass the test: the run of any p that says what the test says.
+pub(crate) fn run_length<F: Fn(u8) -> bool>(text: &[u8], test: F) -> usize
+    requires { F.IsAlwaysCallable test }
+    ensures is { (p : ℕ → Bool) → ((b : ℕ) (r : Bool) → F.post test b r → r ≡ p b) → result ≡ run p text.now }
     ensures within { result ≤ length text.now }
 {
-    text.iter()
-        .take_while(|b| b.is_ascii_alphanumeric())
-        .count()
-}
-
-// How many digits stand at the front.
-pub(crate) fn digit_count(text: &[u8]) -> usize
-    ensures is { result ≡ run digit text.now }
-    ensures within { result ≤ length text.now }
-{
-    text.iter().take_while(|b| b.is_ascii_digit()).count()
+    text.iter().take_while(|b| test(**b)).count()
 }
 
 // The largest number that a text may hold.

@@ -5,7 +5,7 @@ ghost use Rattle.lexer.specs.Lexemes.{meant, number_of, lex_meant, lexeme, skip,
 ghost use Rattle.lexer.specs.Found.{meant_some, others, gap_meant, Closes, Refuses};
 ghost use Rattle.lexer.specs.Limited.{asked};
 
-use crate::bytes::{decimal, digit_count, is_blank, word_length};
+use crate::bytes::{decimal, is_blank, run_length};
 use crate::cursor::Cursor;
 use crate::token::{Lexeme, Question, Refusal, Token};
 use crate::words::word_token;
@@ -108,7 +108,7 @@ impl<'a> Cursor<'a> {
     fn word(self) -> Lexeme<'a>
         ensures { lex_meant (Ok result) ≡ word_at self.entry.place self.entry.rest.now }
     {
-        let n = word_length(self.rest);
+        let n = run_length(self.rest, |b| b.is_ascii_alphanumeric());
         self.lexeme(word_token(&self.rest[..n]), n)
     }
 
@@ -116,7 +116,7 @@ impl<'a> Cursor<'a> {
     fn number(self) -> Result<Lexeme<'a>, Refusal>
         ensures { lex_meant result ≡ number_at self.entry.place self.entry.rest.now }
     {
-        let n = digit_count(self.rest);
+        let n = run_length(self.rest, |b| b.is_ascii_digit());
         let (digits, rest) = self.rest.split_at(n);
         match rest {
             [b, ..] if b.is_ascii_alphabetic() => Err(self.no_token()),

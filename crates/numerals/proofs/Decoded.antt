@@ -1,5 +1,5 @@
 -- Hexadecimal digits, two more at a time.
-use Rattle.std.proofs.Common.{◌≡◌, ℕ, ◌+◌, ◌-◌, ◌<◌, List, [], ◌∷◌, ◌++◌, length, get_or, take, drop, Some, None, Option, refl, ap, ◌∙◌, append_assoc, append-nil, arith}
+use Rattle.std.proofs.Common.{◌≡◌, ℕ, ◌-◌, ◌<◌, List, [], ◌∷◌, ◌++◌, length, get_or, take, drop, Some, None, Option, refl, ap, ◌∙◌, append_assoc, arith}
 use lib.Seq.{take-length}
 use Rattle.numerals.specs.Hexadecimal.{byte_of, front, bytes_of}
 
@@ -15,11 +15,6 @@ behind ds = take (length ds - 2) (drop 2 ds)
 behind_two : (a b : ℕ) (ds : List ℕ) → behind (a ∷ b ∷ ds) ≡ ds
 behind_two a b ds = let e : length (a ∷ b ∷ ds) - 2 ≡ length ds = omega arith in ap (λ n. take n ds) e ∙ take-length ds
 
-pub behind_length : (ds : List ℕ) → 1 < length ds → length (behind ds) + 2 ≡ length ds
-behind_length [] h = absurd (omega arith)
-behind_length (a ∷ []) h = absurd (omega arith)
-behind_length (a ∷ b ∷ ds) h = let e = ap length (behind_two a b ds) in omega arith
-
 after_front : (xs : List ℕ) (x : ℕ) (o : Option (List ℕ)) → after (xs ++ (x ∷ [])) o ≡ after xs (front (Some x) o)
 after_front xs x None = refl
 after_front xs x (Some ys) = ap Some (append_assoc xs (x ∷ []) ys)
@@ -28,17 +23,3 @@ pub after_more : (xs ds : List ℕ) (x : ℕ) → 1 < length ds → Some x ≡ b
 after_more xs [] x h e = absurd (omega arith)
 after_more xs (a ∷ []) x h e = absurd (omega arith)
 after_more xs (a ∷ b ∷ ds) x h e = rw (behind_two a b ds, ← e) (after_front xs x (bytes_of ds))
-
-pub no_digits : (xs ds : List ℕ) → 1 < length ds → None ≡ byte_of (get_or ds 0 0) (get_or ds 1 0) → after xs (bytes_of ds) ≡ None
-no_digits xs [] h e = absurd (omega arith)
-no_digits xs (a ∷ []) h e = absurd (omega arith)
-no_digits xs (a ∷ b ∷ ds) h e = rw (← e)
-
-pub none_left : (xs ds : List ℕ) → length ds ≡ 0 → after xs (bytes_of ds) ≡ Some xs
-none_left xs [] h = ap Some (append-nil xs)
-none_left xs (a ∷ ds) h = absurd (omega arith)
-
-pub one_left : (xs ds : List ℕ) → length ds ≡ 1 → after xs (bytes_of ds) ≡ None
-one_left xs [] h = absurd (omega arith)
-one_left xs (a ∷ []) h = refl
-one_left xs (a ∷ b ∷ ds) h = absurd (omega arith)

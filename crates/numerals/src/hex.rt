@@ -28,6 +28,7 @@ pub fn decode(heap: Global, digits: &[u8]) -> Result<Option<Vec<u8>>, AllocError
     ensures { IfOk result (λ v. option_map vec_items v ≡ bytes_of digits.now) }
 {
     let mut bytes = Vec::new(heap);
+    // a slice pattern takes two digits and leaves one that is over, which chunks would keep apart
     let mut rest = digits;
     while let [high, low, more @ ..] = rest {
         match byte(*high, *low) {

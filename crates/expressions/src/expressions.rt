@@ -34,7 +34,7 @@ pub fn expr(parser: &mut Parser<'_>, table: &mut [Entry], depth: Depth) -> Resul
     }
 }
 
-// [-] term {(+ | - | or) term}
+// [-] term {(+ | - | or) term}. The loop is term's: one function for both would take the first operand, the operator and the operand as three functions, and be no plainer.
 #[cycle(bracketed_expr_factor_first_term_negated_next_term_rounded_simple_term)]
 fn simple(parser: &mut Parser<'_>, table: &mut [Entry], depth: Depth) -> Result<u16, Refusal>
     requires { Ready parser.old }

@@ -5,37 +5,29 @@ ghost use Rattle.agreement.specs.Passed.{FewInstructions, PassedCode, PassedRuns
 ghost use Rattle.agreement.specs.Simulation.{ExprSimulation, CmdSimulation, RoutineSimulation};
 
 // The code does what the source run does.
-pub fn simulation_laws() -> u8
+pub fn simulation_laws()
     ensures expressions { ExprSimulation }
     ensures commands { CmdSimulation }
     ensures routines { RoutineSimulation }
-{
-    0
-}
+{}
 
 // What holds of a checked routine.
-pub fn checked_laws() -> u8
+pub fn checked_laws()
     ensures never_stuck { NeverStuck }
     ensures addressed { Addressed }
-{
-    0
-}
+{}
 
 // A machine beside its line answers every call in one way, and a checked routine's as the plan does.
-pub fn agreement_laws() -> u8
+pub fn agreement_laws()
     ensures answering { Answering }
     ensures one_answering { OneAnswering }
     ensures agreement { Agreement }
-{
-    0
-}
+{}
 
 // The same of a formed table whose routine the check passes.
-pub fn passed_laws() -> u8
+pub fn passed_laws()
     ensures few { FewInstructions }
     ensures code { PassedCode }
     ensures runs { PassedRuns }
     ensures agreement { PassedAgreement }
-{
-    0
-}
+{}

@@ -187,4 +187,4 @@ bounded p g e h = pick (exec (type_in p.decls) g p.body initial) (later_exec g (
     pick : (o : Outcome) → Later g initial o → ended o ≡ Some e → Within g e
     pick (goes_on s) a f = within Finished s a f
     pick (stops t s) a f = within t s a f
-    pick stuck a f = let k : ◌≡◌ {A = ℕ} 0 1 = cc in absurd (omega arith)
+    pick stuck a f = absurd (cc)

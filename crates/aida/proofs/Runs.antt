@@ -76,19 +76,19 @@ module _ (rs : List ℤ) (limit more before allowed : ℕ) (le : limit ≤ more)
 
   feed_receive : (f : ℤ → ℤ) (m : Machine) (xs : List ℤ) → (receive f m xs).status ≡ Ready → receive f (feed rs m) (xs ++ rs) ≡ feed rs (receive f m xs)
   unfolding receive
-  feed_receive f m [] e = let k : ◌≡◌ {A = ℕ} 0 1 = cc in absurd (omega arith)
+  feed_receive f m [] e = absurd (cc)
   feed_receive f m (x ∷ xs) e = refl
 
   feed_send : (b : Bool) (n : ℕ) (m : Machine) → ltb n limit ≡ b → (send_if b m).status ≡ Ready → send_if (ltb n more) (feed rs m) ≡ feed rs (send_if b m)
   unfolding send_if
   feed_send true n m e s = ap (λ (b : Bool). send_if b (feed rs m)) (lt-ltb n more (omega (arith, ltb-true n limit e)))
-  feed_send false n m e s = let k : ◌≡◌ {A = ℕ} 0 1 = cc in absurd (omega arith)
+  feed_send false n m e s = absurd (cc)
 
   feed_transfer : (b c : Bool) (t : ℕ) (m : Machine) → (transfer b c t m).status ≡ Ready → (transfer b c t m).turns ≤ allowed → transfer b (ltb m.turns allowed) t (feed rs m) ≡ feed rs (transfer b c t m)
   unfolding transfer
   feed_transfer false c t m s l = refl
   feed_transfer true true t m s l = ap (λ (c : Bool). transfer true c t (feed rs m)) (lt-ltb m.turns allowed l)
-  feed_transfer true false t m s l = let k : ◌≡◌ {A = ℕ} 0 1 = cc in absurd (omega arith)
+  feed_transfer true false t m s l = absurd (cc)
 
   feed_jump : (b : Bool) (m g h : Machine) → (g.status ≡ Ready → g.turns ≤ allowed → h ≡ feed rs g) → (jump_if b g m).status ≡ Ready → (jump_if b g m).turns ≤ allowed → jump_if b h (feed rs m) ≡ feed rs (jump_if b g m)
   unfolding jump_if
@@ -110,7 +110,7 @@ module _ (rs : List ℤ) (limit more before allowed : ℕ) (le : limit ≤ more)
 
   feed_act : (m : Machine) (o : Option Coded) → (act limit before m Ready o).status ≡ Ready → (act limit before m Ready o).turns ≤ allowed → act more allowed (feed rs m) Ready o ≡ feed rs (act limit before m Ready o)
   unfolding act
-  feed_act m none s l = let k : ◌≡◌ {A = ℕ} 0 1 = cc in absurd (omega arith)
+  feed_act m none s l = absurd (cc)
   feed_act m (some i) s l = feed_perform m i.instruction i.node s l
 
   feed_step : (code : List Coded) (m : Machine) → (step code limit before m).status ≡ Ready → (step code limit before m).turns ≤ allowed → step code more allowed (feed rs m) ≡ feed rs (step code limit before m)

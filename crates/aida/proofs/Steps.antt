@@ -20,24 +20,24 @@ pub data Transition (code : List Coded) (allowed : ℕ) (m : Machine) : Machine 
   halts : (s : Status) → (s ≡ Ready → ⊥) → Transition code allowed m (with_status s m)
 
 pub get_lt : {A : Type 0} (xs : List A) (u : ℕ) (z : A) → get_elem? xs u ≡ some z → u < length xs
-get_lt [] u z e = let k : ◌≡◌ {A = ℕ} 0 1 = cc in absurd (omega arith)
+get_lt [] u z e = absurd (cc)
 get_lt (x ∷ xs) zero z e = omega arith
 get_lt (x ∷ xs) (suc u) z e = let k = get_lt xs u z e in omega arith
 
 pub waiting_not : Waiting ≡ Ready → ⊥
-waiting_not e = let k : ◌≡◌ {A = ℕ} 0 1 = cc in omega arith
+waiting_not e = cc
 
 pub held_not : Held ≡ Ready → ⊥
-held_not e = let k : ◌≡◌ {A = ℕ} 0 1 = cc in omega arith
+held_not e = cc
 
 pub spent_not : Spent ≡ Ready → ⊥
-spent_not e = let k : ◌≡◌ {A = ℕ} 0 1 = cc in omega arith
+spent_not e = cc
 
 pub finished_not : Finished ≡ Ready → ⊥
-finished_not e = let k : ◌≡◌ {A = ℕ} 0 1 = cc in omega arith
+finished_not e = cc
 
 pub faulted_not : (c : Cause) (n : ℕ) → Faulted c n ≡ Ready → ⊥
-faulted_not c n e = let k : ◌≡◌ {A = ℕ} 0 1 = cc in omega arith
+faulted_not c n e = cc
 
 module _ (code : List Coded) (limit allowed : ℕ) where
   does_operate : (n : ℕ) (m : Machine) (r : Result ℤ Cause) → m.counter < length code → Transition code allowed m (operated n m r)

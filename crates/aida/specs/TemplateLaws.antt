@@ -1,5 +1,6 @@
 -- How long the code is, at most two instructions a node; and that its targets and cells exist.
-use Rattle.std.specs.Prelude.{◌≡◌, ℕ, suc, ◌+◌, ◌*◌, ◌≤◌, Bool, true, ◌&&◌, List, [], ◌∷◌, length, nat_le}
+use Rattle.std.specs.Prelude.{◌≡◌, ℕ, suc, ◌+◌, ◌*◌, ◌≤◌, Bool, true, List, length, nat_le}
+use Rattle.std.specs.List.{list_all}
 use Rattle.tosca.specs.Trees.{Expr, const, var, uny, bin, Cmd, skip, assign, seq, choice, loop, input, output, Program}
 use Rattle.aida.specs.declared.instructions.Instruction.{Instruction}
 use Rattle.aida.specs.declared.instructions.Instruction.TheVariants.{LoadConst, LoadVar, Store, UnaryOp, BinaryOp, Input, InputBit, Output, Jump, Goto}
@@ -45,5 +46,4 @@ addressed count (Jump t) = nat_le t count
 addressed count (Goto t) = nat_le t count
 
 unfoldable pub all_addressed : ℕ → List Coded → Bool
-all_addressed count [] = true
-all_addressed count (i ∷ is) = addressed count i.instruction && all_addressed count is
+all_addressed count = list_all (λ i. addressed count i.instruction)

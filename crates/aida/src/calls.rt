@@ -14,11 +14,11 @@ pub enum Call {
 
 #[derive(Clone, Copy, PartialEq, Debug)]
 pub enum Refusal {
-    NoRoom,
-    NoSend,
-    GrantTooLarge,
-    Ended,
-    TooManyTurns,
+    NoRoom = 51,
+    NoSend = 52,
+    GrantTooLarge = 61,
+    Ended = 62,
+    TooManyTurns = 63,
 }
 
 #[derive(Clone, Copy, PartialEq, Debug)]
@@ -35,12 +35,6 @@ impl Refusal {
     pub fn number(self) -> u8
         ensures { result ≡ refusal_number self }
     {
-        match self {
-            Refusal::NoRoom => 51,
-            Refusal::NoSend => 52,
-            Refusal::GrantTooLarge => 61,
-            Refusal::Ended => 62,
-            Refusal::TooManyTurns => 63,
-        }
+        self as u8
     }
 }

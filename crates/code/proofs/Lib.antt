@@ -1,4 +1,4 @@
-mod Scanning
+mod Decoded
 pub mod Counters
 mod Mountable
 pub mod Written

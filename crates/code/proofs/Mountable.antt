@@ -1,5 +1,5 @@
 -- A table that passes the questions, and the code that is made of it.
-use Rattle.std.proofs.Common.{◌≡◌, ℕ, ◌-◌, ◌≤◌, Bool, true, false, cond, leb, List, [], ◌∷◌, ◌++◌, map, length, take, drop, replicate, is_some, Some, None, Option, unwrap_or, sym, refl, ap, ◌∙◌, arith}
+use Rattle.std.proofs.Common.{◌≡◌, ℕ, ◌-◌, ◌≤◌, Bool, true, false, cond, leb, List, [], ◌∷◌, ◌++◌, map, length, take, drop, replicate, is_some, Some, None, Option, unwrap_or, sym, refl, ap, ◌∙◌}
 use Rattle.std.proofs.lemmas.List.{take_at, drop_at, length-map, length-take-le}
 use Rattle.std.proofs.lemmas.Bool.{and_parts, leb-true}
 use Rattle.aida.specs.declared.instructions.Coded.{Coded}
@@ -10,7 +10,7 @@ use Rattle.code.specs.Questions.{blank_coded, said, said_by_all, counted, known,
 
 -- a table mounts if every question has a yes
 never : (n : ℕ) → refused n ≡ mounts → ⊥
-never n e = let z : ◌≡◌ {A = ℕ} 0 1 = cc in omega arith
+never n e = cc
 
 passed : (c k w : Bool) → cond c (cond k (cond w mounts (refused 43)) (refused 42)) (refused 41) ≡ mounts → (c ≡ true) × (k ≡ true) × (w ≡ true)
 passed false k w e = absurd (never 41 e)
@@ -32,7 +32,7 @@ mountable t n e =
 
 some_value : (o : Option Coded) → is_some o ≡ true → o ≡ Some (unwrap_or o blank_coded)
 some_value (Some i) h = refl
-some_value None h = let z : ◌≡◌ {A = ℕ} 0 1 = cc in absurd (omega arith)
+some_value None h = absurd (cc)
 
 -- known entries say instructions
 all_said : (es : List CodeEntry) → are_known es ≡ true → map coded_of es ≡ map (λ (i : Coded). Some i) (said_by_all es)
@@ -41,8 +41,8 @@ all_said (e ∷ es) h =
     let q = and_parts (known e) (are_known es) h in
     ap (λ (o : Option Coded). o ∷ map coded_of es) (some_value (coded_of e) q.0) ∙ ap (λ (l : List (Option Coded)). Some (said e) ∷ l) (all_said es q.1)
 
--- the first n entries, by the bounds that a slice of them has
-module _ (t : List CodeEntry) (code : List Coded) (n : ℕ) (e : code ≡ said_by_all (take (n - 0) t) ++ replicate (2048 - length (take (n - 0) t)) blank_coded) (o : mounting t n ≡ mounts) where
+-- the first n entries
+module _ (t : List CodeEntry) (code : List Coded) (n : ℕ) (e : code ≡ said_by_all (take n t) ++ replicate (2048 - length (take n t)) blank_coded) (o : mounting t n ≡ mounts) where
   long : length (take n t) ≡ n
   long = length-take-le n t (mountable t n o).within
 
@@ -50,9 +50,7 @@ module _ (t : List CodeEntry) (code : List Coded) (n : ℕ) (e : code ≡ said_b
   long_said = length-map (take n t) said ∙ long
 
   whole : code ≡ said_by_all (take n t) ++ replicate (2048 - n) blank_coded
-  whole =
-      let from : n - 0 ≡ n = omega arith in
-      e ∙ ap (λ (k : ℕ). said_by_all (take k t) ++ replicate (2048 - length (take k t)) blank_coded) from ∙ ap (λ (k : ℕ). said_by_all (take n t) ++ replicate (2048 - k) blank_coded) long
+  whole = e ∙ ap (λ (k : ℕ). said_by_all (take n t) ++ replicate (2048 - k) blank_coded) long
 
   pub code_is : take n code ≡ said_by_all (take n t)
   code_is = ap (take n) whole ∙ take_at (said_by_all (take n t)) _ n long_said

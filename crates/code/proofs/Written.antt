@@ -1,10 +1,11 @@
 -- The laws of the format, and code that is written and mounted.
 use Rattle.std.proofs.Common.{◌≡◌, ℕ, ◌≤◌, Bool, true, cond, List, [], ◌∷◌, map, length, take, is_some, Some, Option, unwrap_or, refl, ap, ◌∙◌, arith}
+use Rattle.std.specs.Option.{option_map}
 use Rattle.std.proofs.lemmas.List.{take_at, length-map, length-append}
 use Rattle.std.proofs.lemmas.Bool.{and_from, le-leb, cond-true}
 use Rattle.tosca.specs.declared.operators.Unary.TheVariants.{Negate, Not}
 use Rattle.tosca.specs.declared.operators.Binary.{Binary}
-use Rattle.tosca.specs.declared.operators.Binary.TheVariants.{Add, Subtract, Multiply, Divide, Round, Less, Greater, Equal, And, Or}
+use Rattle.tosca.proofs.Entries.{binary_coded}
 use Rattle.aida.specs.declared.instructions.Instruction.{Instruction}
 use Rattle.aida.specs.declared.instructions.Instruction.TheVariants.{LoadConst, LoadVar, Store, UnaryOp, BinaryOp, Input, InputBit, Output, Jump, Goto}
 use Rattle.aida.specs.declared.instructions.Coded.{Coded}
@@ -14,25 +15,13 @@ use Rattle.code.specs.CodeTable.{entry_for, code_entry, coded_of}
 use Rattle.code.specs.Questions.{blank_coded, known, are_known, said_by_all, are_within, counted, mounts, refused}
 use Rattle.code.specs.CodeLaws.{Faithful, written, AddressedMounts, Worked}
 
-binary_said : (o : Binary) (c n : ℕ) → coded_of (entry_for (BinaryOp o c) n) ≡ Some (coded n (BinaryOp o c))
-binary_said Add c n = refl
-binary_said Subtract c n = refl
-binary_said Multiply c n = refl
-binary_said Divide c n = refl
-binary_said Round c n = refl
-binary_said Less c n = refl
-binary_said Greater c n = refl
-binary_said Equal c n = refl
-binary_said And c n = refl
-binary_said Or c n = refl
-
 entry_said : (i : Instruction) (n : ℕ) → coded_of (entry_for i n) ≡ Some (coded n i)
 entry_said (LoadConst v) n = refl
 entry_said (LoadVar c) n = refl
 entry_said (Store c) n = refl
 entry_said (UnaryOp Negate) n = refl
 entry_said (UnaryOp Not) n = refl
-entry_said (BinaryOp o c) n = binary_said o c n
+entry_said (BinaryOp o c) n = ap (λ (x : Option Binary). option_map (coded n) (option_map (λ (y : Binary). BinaryOp y c) x)) (binary_coded o)
 entry_said Input n = refl
 entry_said InputBit n = refl
 entry_said Output n = refl

@@ -1,5 +1,6 @@
 -- The questions that a code table is asked before it is mounted: 41, 42 and 43, in this order.
-use Rattle.std.specs.Prelude.{ℕ, Bool, true, cond, ◌&&◌, List, [], ◌∷◌, map, length, take, pos, is_some, nat_le}
+use Rattle.std.specs.Prelude.{ℕ, Bool, cond, ◌&&◌, List, map, length, take, pos, is_some, nat_le}
+use Rattle.std.specs.List.{list_all}
 use Rattle.std.specs.Option.{unwrap_or}
 use Rattle.aida.specs.declared.instructions.Instruction.TheVariants.{LoadConst}
 use Rattle.aida.specs.declared.instructions.Coded.{Coded}
@@ -28,8 +29,7 @@ abbrev pub known : CodeEntry → Bool
 known e = is_some (coded_of e)
 
 abbrev pub are_known : List CodeEntry → Bool
-are_known [] = true
-are_known (e ∷ es) = known e && are_known es
+are_known = list_all known
 
 -- 43: every target is at most the count n, and every cell at most 95
 abbrev pub are_within : ℕ → List CodeEntry → Bool

@@ -8,6 +8,7 @@ use aida::instructions::Coded;
 pub const MAX_INSTRUCTIONS: usize = 2048;
 
 // Made by `mount` alone. The first `count` instructions are the code; the others are blank.
+// An array with its length beside it, since no call below the program allocates.
 #[derive(Drop)]
 pub struct Mounted {
     pub(crate) code: [Coded; MAX_INSTRUCTIONS],

@@ -1,5 +1,5 @@
 // Mounting a code table.
-ghost use Rattle.std.specs.Prelude.{◌≡◌, ◌-◌, ◌≤◌, ◌++◌, length, replicate, if◌then◌else◌, Some, None, nat_lt, slice_index_or};
+ghost use Rattle.std.specs.Prelude.{◌≡◌, ◌-◌, ◌≤◌, ◌++◌, length, replicate, slice_index_or};
 ghost use Rattle.std.proofs.Math.ListN.{get_elem?};
 ghost use Rattle.code.specs.Questions.{blank_coded, said_by_all, mounting as mounting_of, mounts};
 ghost use Rattle.code.specs.Mounting.{answered, code_of, Holds, Made, found, Within};
@@ -9,28 +9,21 @@ use crate::questions::{BLANK, all_known, all_within, said};
 use crate::table::CodeEntry;
 use crate::unmountable::Unmountable;
 use aida::instructions::Coded;
+use std::array;
+
+// The instruction of the entry at an index, or a blank one.
+fn said_at(entries: &[CodeEntry], k: usize) -> Coded
+    ensures { result ≡ slice_index_or (said_by_all entries.now) k blank_coded }
+{
+    entries.get(k).map_or(BLANK, said)
+}
 
 // The entries' instructions, then blank ones.
 fn decoded(entries: &[CodeEntry]) -> [Coded; MAX_INSTRUCTIONS]
     requires { length entries.now ≤ 2048 }
     ensures { result ≡ said_by_all entries.now ++ replicate (2048 - length entries.now) blank_coded }
 {
-    let mut code = [BLANK; MAX_INSTRUCTIONS];
-    for (k, entry) in entries.iter().enumerate() {
-        code[k] = said(entry);
-    }
-    code
-}
-
-// The instruction at a counter, if the code goes so far.
-fn at(code: &[Coded], counter: usize) -> Option<Coded>
-    ensures { result ≡ (if nat_lt counter (length code.now) then Some (slice_index_or code.now counter blank_coded) else None) }
-{
-    if counter < code.len() {
-        Some(code[counter])
-    } else {
-        None
-    }
+    array::from_fn(|k| said_at(entries, k))
 }
 
 impl Mounted {
@@ -40,7 +33,7 @@ impl Mounted {
         ensures { Holds table.now count result }
     {
         Mounted {
-            code: decoded(&table[0..count]),
+            code: decoded(&table[..count]),
             count,
         }
     }
@@ -49,7 +42,7 @@ impl Mounted {
     pub fn instructions(&self) -> &[Coded]
         ensures { result.now ≡ code_of self.now }
     {
-        &self.code[0..self.count]
+        &self.code[..self.count]
     }
 
     // How many instructions the code has.
@@ -64,7 +57,7 @@ impl Mounted {
         ensures is { result ≡ found (get_elem? (code_of self.now) counter) }
         ensures within { Within self.now result }
     {
-        at(self.instructions(), counter)
+        self.instructions().get(counter).copied()
     }
 }
 
@@ -75,7 +68,7 @@ fn ask(table: &[CodeEntry], count: usize) -> Result<(), Unmountable>
     if count > MAX_INSTRUCTIONS || count > table.len() {
         return Err(Unmountable::Count);
     }
-    let entries = &table[0..count];
+    let entries = &table[..count];
     if !all_known(entries) {
         return Err(Unmountable::Entry);
     }

@@ -22,22 +22,11 @@ pub(crate) fn said(entry: &CodeEntry) -> Coded
     entry.coded().unwrap_or(BLANK)
 }
 
-fn is_known(entry: &CodeEntry) -> bool
-    ensures { result ≡ known entry.now }
-{
-    entry.coded().is_some()
-}
-
 // Every entry has a known kind, and a known operator if its kind has one.
 pub(crate) fn all_known(entries: &[CodeEntry]) -> bool
     ensures { result ≡ are_known entries.now }
 {
-    for entry in entries {
-        if !is_known(entry) {
-            return false;
-        }
-    }
-    true
+    entries.iter().all(|entry| entry.coded().is_some())
 }
 
 // The instruction's target is at most the count, its cell is one of the store's.
@@ -58,13 +47,12 @@ fn is_addressed(instruction: Instruction, count: usize) -> bool
 }
 
 // Every target is at most the count, every cell is one of the store's.
+#[tactic(auto, unfolding(aida::specs::TemplateLaws::all_addressed))]
 pub(crate) fn all_within(entries: &[CodeEntry], count: usize) -> bool
     ensures { result ≡ are_within count entries.now }
 {
-    for entry in entries {
-        if !is_addressed(said(entry).instruction, count) {
-            return false;
-        }
-    }
-    true
+    entries
+        .iter()
+        .map(said)
+        .all(|coded| is_addressed(coded.instruction, count))
 }

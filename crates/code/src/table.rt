@@ -1,4 +1,4 @@
-// The code table: its entries are plain numbers, and this module alone knows their codes.
+// The code table: its entries are plain numbers, and this module alone knows the codes of their kinds.
 ghost use Rattle.std.specs.Prelude.{◌≡◌};
 ghost use Rattle.code.specs.CodeTable.{code_entry, instruction_of, coded_of};
 
@@ -26,7 +26,7 @@ pub const BLANK_CODE: CodeEntry = CodeEntry {
     node: 0,
 };
 
-// The codes of the kinds.
+// The codes of the kinds, which the table format wants as plain numbers. Constants write and match them.
 const LOAD_CONST: u8 = 1;
 
 const LOAD_VAR: u8 = 2;
@@ -74,13 +74,13 @@ impl CodeEntry {
             },
             Instruction::UnaryOp(op) => CodeEntry {
                 kind: UNARY_OP,
-                op: op.code(),
+                op: op.into(),
                 ..blank
             },
             Instruction::BinaryOp(op, cell) => {
                 CodeEntry {
                     kind: BINARY_OP,
-                    op: op.code(),
+                    op: op.into(),
                     cell,
                     ..blank
                 }
@@ -118,8 +118,8 @@ impl CodeEntry {
             LOAD_CONST => Some(Instruction::LoadConst(self.value)),
             LOAD_VAR => Some(Instruction::LoadVar(self.cell)),
             STORE => Some(Instruction::Store(self.cell)),
-            UNARY_OP => Some(Instruction::UnaryOp(Unary::from_code(self.op)?)),
-            BINARY_OP => Some(Instruction::BinaryOp(Binary::from_code(self.op)?, self.cell)),
+            UNARY_OP => Some(Instruction::UnaryOp(Unary::try_from(self.op).ok()?)),
+            BINARY_OP => Some(Instruction::BinaryOp(Binary::try_from(self.op).ok()?, self.cell)),
             INPUT => Some(Instruction::Input),
             INPUT_BIT => Some(Instruction::InputBit),
             OUTPUT => Some(Instruction::Output),

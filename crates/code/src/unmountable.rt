@@ -5,11 +5,11 @@ ghost use Rattle.code.specs.Mounting.{unmountable_number};
 #[derive(Clone, Copy, PartialEq, Debug)]
 pub enum Unmountable {
     // the count is above 2,048, or more than the table's entries
-    Count,
+    Count = 41,
     // an entry has an unknown kind or operator
-    Entry,
+    Entry = 42,
     // a target is past the count, or a cell past 95
-    Address,
+    Address = 43,
 }
 
 impl Unmountable {
@@ -17,10 +17,6 @@ impl Unmountable {
     pub fn number(self) -> u8
         ensures { result ≡ unmountable_number self }
     {
-        match self {
-            Unmountable::Count => 41,
-            Unmountable::Entry => 42,
-            Unmountable::Address => 43,
-        }
+        self as u8
     }
 }

@@ -29,8 +29,8 @@ asked t n p a = ask_deep t n p a (leb n 32) refl
 -- a token that is let through
 let_through : {S : Type 0} (t : Tok) (n p : ℕ) (a o : Outcome S) (r : S) → Asked t n p a o → o ≡ accepted r → (n ≤ 32) × (few t ≡ true) × (a ≡ accepted r)
 let_through t n p a o r (passes h k) e = (h, k, e)
-let_through t n p a o r (too_deep h) e = absurd (let z : ◌≡◌ {A = ℕ} 0 1 = cc in omega arith)
-let_through t n p a o r (too_many h k) e = absurd (let z : ◌≡◌ {A = ℕ} 0 1 = cc in omega arith)
+let_through t n p a o r (too_deep h) e = absurd (cc)
+let_through t n p a o r (too_many h k) e = absurd (cc)
 
 folds_within : {S : Type 0} (e : Ending) (r : List Deep) (z : Outcome S) → Within r → folds (limits e) r z ≡ z
 folds_within e [] z l = refl
@@ -48,13 +48,13 @@ within_folds e (deep (at t p) n ∷ r) z s h =
 
 module _ {S : Type 0} (act : Act → S → S) where
   settles : (e : Ending) (v : Seen S) (r : S) → ending e v ≡ accepted r → (e ≡ over) × (v ≡ yes r)
-  settles over no r h = absurd (let z : ◌≡◌ {A = ℕ} 0 1 = cc in omega arith)
+  settles over no r h = absurd (cc)
   settles over (yes s) r h = (refl, (let k : s ≡ r = cc in ap yes k))
-  settles (bad n p) v r h = absurd (let z : ◌≡◌ {A = ℕ} 0 1 = cc in omega arith)
+  settles (bad n p) v r h = absurd (cc)
 
   moves : (e : Ending) (t : Tok) (p : ℕ) (ts : List Item) (r : S) (on : List Sym → S → Outcome S) (on' : List Sym → S → Seen S) → ((K : List Sym) (s : S) → on K s ≡ accepted r → on' K s ≡ yes r) →
       (m : Move S) → after act (limits e) (at t p) ts m on ≡ accepted r → after act plain (at t p) ts m on' ≡ yes r
-  moves e t p ts r on on' h stuck k = absurd (let z : ◌≡◌ {A = ℕ} 0 1 = cc in omega arith)
+  moves e t p ts r on on' h stuck k = absurd (cc)
   moves e t p ts r on on' h (go K s) k = h K s (let_through t (marks K) p (on K s) (asking (at t p) (marks K) (on K s)) r (asked t (marks K) p (on K s)) k).2
 
   -- what is read within the limits is accepted without them

@@ -1,5 +1,5 @@
 -- What the automaton accepts is derived: the stack as a list of derivations, found token by token from the end.
-use Rattle.std.proofs.Common.{◌≡◌, ℕ, List, [], ◌∷◌, ◌++◌, sym, refl, ap, ◌∙◌, subst, arith}
+use Rattle.std.proofs.Common.{◌≡◌, ℕ, List, [], ◌∷◌, ◌++◌, sym, refl, ap, ◌∙◌, subst}
 use Rattle.tosca.specs.declared.operators.SimpleType.{SimpleType}
 use Rattle.tosca.specs.declared.operators.Unary.TheVariants as unary
 use Rattle.tosca.specs.declared.operators.Binary.TheVariants as binary
@@ -263,7 +263,7 @@ settled act (type ns ∷ K) s l = absurd l
 
 module _ {S : Type 0} (act : Act → S → S) where
   leads : (x : Item) (ts : List Item) (r : S) (on : List Sym → S → Seen S) → ((K : List Sym) (s : S) → on K s ≡ yes r → Ders K ts) → (m : Move S) → after act plain x ts m on ≡ yes r → Leads m ts
-  leads x ts r on h stuck e = absurd (let z : ◌≡◌ {A = ℕ} 0 1 = cc in omega arith)
+  leads x ts r on h stuck e = absurd (cc)
   leads x ts r on h (go K s) e = h K s e
 
   accepted_ders : (ts : List Item) (K : List Sym) (s r : S) → run act plain K s ts ≡ yes r → Ders K ts

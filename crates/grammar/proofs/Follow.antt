@@ -1,5 +1,5 @@
 -- The automaton follows a derivation, in every context, whatever it builds and whoever watches.
-use Rattle.std.proofs.Common.{◌≡◌, ℕ, suc, false, List, [], ◌∷◌, ◌++◌, refl, ap, ◌∙◌, arith}
+use Rattle.std.proofs.Common.{◌≡◌, ℕ, suc, false, List, [], ◌∷◌, ◌++◌, refl, ap, ◌∙◌}
 use Rattle.tosca.specs.declared.operators.Unary.TheVariants as unary
 use Rattle.tosca.specs.declared.operators.Binary.TheVariants as binary
 use Rattle.tosca.specs.Trees.{Expr, Cmd, Decl}
@@ -129,8 +129,8 @@ module _ {S A : Type 0} (act : Act → S → S) (w : Watch S A) where
 
   pub no_cmd : (K : List Sym) (s : S) (o : List Item) → next_cmd o ≡ false → run act w (auto.cmd ∷ K) s o ≡ run act w K (act (a_skip (next_place o)) s) o
   no_cmd K s [] h = refl
-  no_cmd K s (at (name n) p ∷ ts) h = absurd (let z : ◌≡◌ {A = ℕ} 0 1 = cc in omega arith)
-  no_cmd K s (at (start x) p ∷ ts) h = absurd (let z : ◌≡◌ {A = ℕ} 0 1 = cc in omega arith)
+  no_cmd K s (at (name n) p ∷ ts) h = absurd (cc)
+  no_cmd K s (at (start x) p ∷ ts) h = absurd (cc)
   no_cmd K s (at (lit x) p ∷ ts) h = refl
   no_cmd K s (at (op x) p ∷ ts) h = refl
   no_cmd K s (at (pre x) p ∷ ts) h = refl

@@ -1,19 +1,18 @@
 -- The table that is listed of a tree stands for that tree, numbered.
-use Rattle.std.proofs.Common.{◌≡◌, ℕ, suc, ◌-◌, ◌<◌, ◌≤◌, ltb, List, [], ◌∷◌, ◌++◌, length, get_or, Some, Option, sym, refl, ap, ◌∙◌, subst, ap₂, arith}
+use Rattle.std.proofs.Common.{◌≡◌, ℕ, suc, ◌-◌, ◌≤◌, List, [], ◌∷◌, ◌++◌, length, get_or, Some, Option, sym, refl, ap, ◌∙◌, subst, ap₂, arith}
 use Rattle.std.proofs.lemmas.List.{length_push, append_assoc, append-nil, get_or_at}
-use Rattle.std.proofs.lemmas.Bool.{lt-ltb, cond-true}
 use Rattle.tosca.specs.declared.table.Entry.{Entry}
 use Rattle.tosca.specs.declared.table.Node.{Node}
 use Rattle.tosca.specs.declared.table.Node.TheVariants.{Decl, Const, Var, Uny, Bin, Skip, Assign, Seq, Choice, Loop, Input, Output, Program}
 use Rattle.tosca.specs.Table.{blank, entry, node}
 use Rattle.tosca.specs.Trees.{Expr, const, var, uny, bin, Cmd, skip, assign, seq, choice, loop, input, output}
 use Rattle.tosca.specs.Trees as tree
-use Rattle.tosca.specs.Decode.{earlier, no_expr, expr_of, expr_at, cmd_of, cmd_at, declared, decls_from, body_of, program_of}
+use Rattle.tosca.specs.Decode.{expr_at, cmd_at, declared, decls_from, body_of, program_of}
 use Rattle.grammar.specs.Building.{declares, build_e, build_c, builds}
 use Rattle.grammar.specs.Listing.{Listing, listing, adds, one, two, three, list, entries_of}
 use Rattle.grammar.specs.Numbered.{last_e, last_c, number_e, number_c, number_ds, numbered}
-use Rattle.grammar.proofs.OpenTables.{node_entry}
-use Rattle.tosca.proofs.Decoding.{expr_step, cmd_step}
+use Rattle.tosca.proofs.Entries.{entry_said}
+use Rattle.tosca.proofs.Decoding.{expr_const, expr_var, expr_uny, expr_bin, cmd_skip, cmd_assign, cmd_seq, cmd_choice, cmd_loop, cmd_input, cmd_output}
 
 record Begins (es t : List Entry) : Type 0 where
   rest : List Entry
@@ -35,7 +34,7 @@ Quiet n = (k : ℕ) (ds : List (tree.Decl ℕ)) → declared k (Some n) ds ≡ d
 
 quiet_push : (n : Node) (p : ℕ) → Quiet n → (k : ℕ) (es : List Entry) → decls_from k (es ++ (entry n p ∷ [])) ≡ decls_from k es
 unfolding decls_from
-quiet_push n p q k [] = ap (λ (x : Option Node). declared k x []) (node_entry n p) ∙ q k []
+quiet_push n p q k [] = ap (λ (x : Option Node). declared k x []) (entry_said n p) ∙ q k []
 quiet_push n p q k (e ∷ es) = ap (declared k (node e)) (quiet_push n p q (suc k) es)
 
 -- an entry after the entries es, which have grown from those of l
@@ -47,7 +46,7 @@ module _ (l : Listing) (es : List Entry) (b : Begins l.entries es) (h : (k : ℕ
         loose = ap {B = List ℕ} (λ (a : ℕ). a ∷ l.loose) e;
         count = omega (arith, length_push es x, e);
         begins = begins_on b (record { rest = x ∷ []; is = refl });
-        root = λ t c. ap (λ (z : List Entry). node (get_or z r blank)) (c.is ∙ append_assoc es (x ∷ []) c.rest) ∙ ap node (get_or_at es x c.rest blank r e) ∙ node_entry n p;
+        root = λ t c. ap (λ (z : List Entry). node (get_or z r blank)) (c.is ∙ append_assoc es (x ∷ []) c.rest) ∙ ap node (get_or_at es x c.rest blank r e) ∙ entry_said n p;
         quiet = λ k. quiet_push n p q k es ∙ h k;
       }
 
@@ -140,31 +139,16 @@ begins_three es (c ∷ []) p f = record { rest = []; is = sym (append-nil es) }
 begins_three es (c ∷ b ∷ []) p f = record { rest = []; is = sym (append-nil es) }
 begins_three es (c ∷ b ∷ a ∷ V) p f = record { rest = _; is = refl }
 
-earlier_is : {A : Type 0} (n k : ℕ) (o a b : A) → k < n → a ≡ b → earlier n k o a ≡ b
-earlier_is n k o a b h e = cond-true (ltb k n) a o (lt-ltb k n h) ∙ e
-
 -- a table that begins with the entries of a tree has the numbered tree at its root
 module _ (t : List Entry) where
-  at_expr : (n k : ℕ) (a : Expr ℕ) → k < n → expr_at t k ≡ a → earlier n k (no_expr k) (expr_at t k) ≡ a
-  at_expr n k a h e = earlier_is n k (no_expr k) (expr_at t k) a h e
-
-  at_cmd : (n k : ℕ) (a : Cmd ℕ) → k < n → cmd_at t k ≡ a → earlier n k (skip k) (cmd_at t k) ≡ a
-  at_cmd n k a h e = earlier_is n k (skip k) (cmd_at t k) a h e
-
-  expr_root : (n : ℕ) (x : Node) → node (get_or t n blank) ≡ Some x → expr_at t n ≡ expr_of n (expr_at t) (Some x)
-  expr_root n x e = expr_step t n ∙ ap (expr_of n (expr_at t)) e
-
-  cmd_root : (n : ℕ) (x : Node) → node (get_or t n blank) ≡ Some x → cmd_at t n ≡ cmd_of n (expr_at t) (cmd_at t) (Some x)
-  cmd_root n x e = cmd_step t n ∙ ap (cmd_of n (expr_at t) (cmd_at t)) e
-
   reads_expr : (a : Expr ℕ) (b : ℕ) (l : Listing) → length l.entries ≡ b → Begins (build_e list a l).entries t → expr_at t (last_e b a) ≡ number_e b a
-  reads_expr (const p v) b l e h = expr_root b (Const v) ((grows_expr (const p v) b l e).root t h)
-  reads_expr (var p x) b l e h = expr_root b (Var x) ((grows_expr (var p x) b l e).root t h)
+  reads_expr (const p v) b l e h = expr_const t b v ((grows_expr (const p v) b l e).root t h)
+  reads_expr (var p x) b l e h = expr_var t b x ((grows_expr (var p x) b l e).root t h)
   reads_expr (uny p o a) b l e h =
       let l₁ = build_e list a l in
       let i = last_e b a in
-      expr_root (suc i) (Uny o i) ((grows_expr (uny p o a) b l e).root t h)
-      ∙ ap (λ (z : Expr ℕ). uny (suc i) o z) (at_expr (suc i) i (number_e b a) (omega arith) (reads_expr a b l e (begins_on (begins_one l₁.entries l₁.loose p (λ j. Uny o j)) h)))
+      expr_uny t (suc i) o i ((grows_expr (uny p o a) b l e).root t h) (omega arith)
+      ∙ ap (λ (z : Expr ℕ). uny (suc i) o z) (reads_expr a b l e (begins_on (begins_one l₁.entries l₁.loose p (λ j. Uny o j)) h))
   reads_expr (bin p a o c) b l e h =
       let l₁ = build_e list a l in
       let l₂ = build_e list c l₁ in
@@ -173,18 +157,18 @@ module _ (t : List Entry) where
       let g₁ = grows_expr a b l e in
       let g₂ = grows_expr c (suc i) l₁ g₁.count in
       let h₂ : Begins l₂.entries t = begins_on (begins_two l₂.entries l₂.loose p (λ y z. Bin y o z)) h in
-      expr_root (suc j) (Bin i o j) ((grows_expr (bin p a o c) b l e).root t h)
+      expr_bin t (suc j) i o j ((grows_expr (bin p a o c) b l e).root t h) (omega (arith, above_expr (suc i) c)) (omega arith)
       ∙ ap₂ (λ (y z : Expr ℕ). bin (suc j) y o z)
-      (at_expr (suc j) i (number_e b a) (omega (arith, above_expr (suc i) c)) (reads_expr a b l e (begins_on g₂.begins h₂)))
-      (at_expr (suc j) j (number_e (suc i) c) (omega arith) (reads_expr c (suc i) l₁ g₁.count h₂))
+      (reads_expr a b l e (begins_on g₂.begins h₂))
+      (reads_expr c (suc i) l₁ g₁.count h₂)
 
   reads_cmd : (a : Cmd ℕ) (b : ℕ) (l : Listing) → length l.entries ≡ b → Begins (build_c list a l).entries t → cmd_at t (last_c b a) ≡ number_c b a
-  reads_cmd (skip p) b l e h = cmd_root b Skip ((grows_cmd (skip p) b l e).root t h)
+  reads_cmd (skip p) b l e h = cmd_skip t b ((grows_cmd (skip p) b l e).root t h)
   reads_cmd (assign p x a) b l e h =
       let l₁ = build_e list a l in
       let i = last_e b a in
-      cmd_root (suc i) (Assign x i) ((grows_cmd (assign p x a) b l e).root t h)
-      ∙ ap (λ (z : Expr ℕ). assign (suc i) x z) (at_expr (suc i) i (number_e b a) (omega arith) (reads_expr a b l e (begins_on (begins_one l₁.entries l₁.loose p (λ j. Assign x j)) h)))
+      cmd_assign t (suc i) x i ((grows_cmd (assign p x a) b l e).root t h) (omega arith)
+      ∙ ap (λ (z : Expr ℕ). assign (suc i) x z) (reads_expr a b l e (begins_on (begins_one l₁.entries l₁.loose p (λ j. Assign x j)) h))
   reads_cmd (seq p a c) b l e h =
       let l₁ = build_c list a l in
       let l₂ = build_c list c l₁ in
@@ -193,10 +177,10 @@ module _ (t : List Entry) where
       let g₁ = grows_cmd a b l e in
       let g₂ = grows_cmd c (suc i) l₁ g₁.count in
       let h₂ : Begins l₂.entries t = begins_on (begins_two l₂.entries l₂.loose p (λ y z. Seq y z)) h in
-      cmd_root (suc j) (Seq i j) ((grows_cmd (seq p a c) b l e).root t h)
+      cmd_seq t (suc j) i j ((grows_cmd (seq p a c) b l e).root t h) (omega (arith, above_cmd (suc i) c)) (omega arith)
       ∙ ap₂ (λ (y z : Cmd ℕ). seq (suc j) y z)
-      (at_cmd (suc j) i (number_c b a) (omega (arith, above_cmd (suc i) c)) (reads_cmd a b l e (begins_on g₂.begins h₂)))
-      (at_cmd (suc j) j (number_c (suc i) c) (omega arith) (reads_cmd c (suc i) l₁ g₁.count h₂))
+      (reads_cmd a b l e (begins_on g₂.begins h₂))
+      (reads_cmd c (suc i) l₁ g₁.count h₂)
   reads_cmd (choice p a c d) b l e h =
       let l₁ = build_e list a l in
       let l₂ = build_c list c l₁ in
@@ -209,13 +193,11 @@ module _ (t : List Entry) where
       let g₃ = grows_cmd d (suc j) l₂ g₂.count in
       let h₃ : Begins l₃.entries t = begins_on (begins_three l₃.entries l₃.loose p (λ x y z. Choice x y z)) h in
       let h₂ : Begins l₂.entries t = begins_on g₃.begins h₃ in
-      let x : earlier (suc k) i (no_expr i) (expr_at t i) ≡ number_e b a =
-      at_expr (suc k) i (number_e b a) (omega (arith, above_cmd (suc i) c, above_cmd (suc j) d)) (reads_expr a b l e (begins_on g₂.begins h₂)) in
-      let y : earlier (suc k) j (skip j) (cmd_at t j) ≡ number_c (suc i) c =
-      at_cmd (suc k) j (number_c (suc i) c) (omega (arith, above_cmd (suc j) d)) (reads_cmd c (suc i) l₁ g₁.count h₂) in
-      let z : earlier (suc k) k (skip k) (cmd_at t k) ≡ number_c (suc j) d =
-      at_cmd (suc k) k (number_c (suc j) d) (omega arith) (reads_cmd d (suc j) l₂ g₂.count h₃) in
-      cmd_root (suc k) (Choice i j k) ((grows_cmd (choice p a c d) b l e).root t h) ∙ (λ r. choice (suc k) (x r) (y r) (z r))
+      let x = reads_expr a b l e (begins_on g₂.begins h₂) in
+      let y = reads_cmd c (suc i) l₁ g₁.count h₂ in
+      let z = reads_cmd d (suc j) l₂ g₂.count h₃ in
+      cmd_choice t (suc k) i j k ((grows_cmd (choice p a c d) b l e).root t h) (omega (arith, above_cmd (suc i) c, above_cmd (suc j) d)) (omega (arith, above_cmd (suc j) d)) (omega arith)
+      ∙ (λ r. choice (suc k) (x r) (y r) (z r))
   reads_cmd (loop p a c) b l e h =
       let l₁ = build_e list a l in
       let l₂ = build_c list c l₁ in
@@ -224,16 +206,16 @@ module _ (t : List Entry) where
       let g₁ = grows_expr a b l e in
       let g₂ = grows_cmd c (suc i) l₁ g₁.count in
       let h₂ : Begins l₂.entries t = begins_on (begins_two l₂.entries l₂.loose p (λ y z. Loop y z)) h in
-      cmd_root (suc j) (Loop i j) ((grows_cmd (loop p a c) b l e).root t h)
+      cmd_loop t (suc j) i j ((grows_cmd (loop p a c) b l e).root t h) (omega (arith, above_cmd (suc i) c)) (omega arith)
       ∙ ap₂ (λ (y : Expr ℕ) (z : Cmd ℕ). loop (suc j) y z)
-      (at_expr (suc j) i (number_e b a) (omega (arith, above_cmd (suc i) c)) (reads_expr a b l e (begins_on g₂.begins h₂)))
-      (at_cmd (suc j) j (number_c (suc i) c) (omega arith) (reads_cmd c (suc i) l₁ g₁.count h₂))
-  reads_cmd (input p x) b l e h = cmd_root b (Input x) ((grows_cmd (input p x) b l e).root t h)
+      (reads_expr a b l e (begins_on g₂.begins h₂))
+      (reads_cmd c (suc i) l₁ g₁.count h₂)
+  reads_cmd (input p x) b l e h = cmd_input t b x ((grows_cmd (input p x) b l e).root t h)
   reads_cmd (output p a) b l e h =
       let l₁ = build_e list a l in
       let i = last_e b a in
-      cmd_root (suc i) (Output i) ((grows_cmd (output p a) b l e).root t h)
-      ∙ ap (λ (z : Expr ℕ). output (suc i) z) (at_expr (suc i) i (number_e b a) (omega arith) (reads_expr a b l e (begins_on (begins_one l₁.entries l₁.loose p (λ j. Output j)) h)))
+      cmd_output t (suc i) i ((grows_cmd (output p a) b l e).root t h) (omega arith)
+      ∙ ap (λ (z : Expr ℕ). output (suc i) z) (reads_expr a b l e (begins_on (begins_one l₁.entries l₁.loose p (λ j. Output j)) h))
 
 -- the declarations' entries
 abbrev pub decl_entries : List (tree.Decl ℕ) → List Entry
@@ -253,7 +235,7 @@ length_decls (d ∷ ds) = ap suc (length_decls ds)
 reads_decls : (k : ℕ) (ds : List (tree.Decl ℕ)) → decls_from k (decl_entries ds) ≡ number_ds k ds
 unfolding decls_from
 reads_decls k [] = refl
-reads_decls k (d ∷ ds) = ap₂ (declared k) (node_entry (Decl d.name d.type) d.label) (reads_decls (suc k) ds)
+reads_decls k (d ∷ ds) = ap₂ (declared k) (entry_said (Decl d.name d.type) d.label) (reads_decls (suc k) ds)
 
 -- the declarations, and what has grown from them
 module _ (t : tree.Program ℕ) where

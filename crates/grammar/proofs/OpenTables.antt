@@ -3,64 +3,16 @@ use Rattle.std.proofs.Common.{◌≡◌, ℕ, suc, ◌+◌, ◌<◌, ◌≤◌, 
 use lib.ListN.{get_or-append}
 use Rattle.std.proofs.lemmas.List.{get_or_at, length_push}
 use Rattle.std.proofs.lemmas.Bool.{and_from, lt-ltb, le-leb, eq-eqb, cases_lt, cond-true}
-use Rattle.tosca.specs.declared.operators.SimpleType.TheVariants.{Integer, Boolean}
-use Rattle.tosca.specs.declared.operators.Value.TheVariants.{Number, Truth}
-use Rattle.tosca.specs.declared.operators.Unary.TheVariants as unary
-use Rattle.tosca.specs.declared.operators.Binary.TheVariants as binary
 use Rattle.tosca.specs.declared.table.Entry.{Entry}
 use Rattle.tosca.specs.declared.table.Node.{Node}
-use Rattle.tosca.specs.declared.table.Node.TheVariants.{Decl, Const, Var, Uny, Bin, Skip, Assign, Seq, Choice, Loop, Input, Output, Program}
+use Rattle.tosca.specs.declared.table.Node.TheVariants.{Program}
 use Rattle.tosca.specs.Table.{blank, entry, node}
+use Rattle.tosca.proofs.Entries.{entry_said, entry_placed}
 use Rattle.tosca.specs.Opens.{Sort, is_decl, is_expr, is_cmd, is_program, is_none, sort, same_sort, Part, cmd_part, parts, few_names, known_node, known, are_known, placed, are_placed, uses, all_uses, once, are_once, no_decl, decls_first, program_last, arranged, opened, entries_open}
-
--- an entry says the node that it is the entry of
-pub node_entry : (n : Node) (p : ℕ) → node (entry n p) ≡ Some n
-node_entry (Decl x Integer) p = refl
-node_entry (Decl x Boolean) p = refl
-node_entry (Const (Number z)) p = refl
-node_entry (Const (Truth true)) p = refl
-node_entry (Const (Truth false)) p = refl
-node_entry (Var x) p = refl
-node_entry (Uny unary.Negate a) p = refl
-node_entry (Uny unary.Not a) p = refl
-node_entry (Bin a binary.Add b) p = refl
-node_entry (Bin a binary.Subtract b) p = refl
-node_entry (Bin a binary.Multiply b) p = refl
-node_entry (Bin a binary.Divide b) p = refl
-node_entry (Bin a binary.Round b) p = refl
-node_entry (Bin a binary.Less b) p = refl
-node_entry (Bin a binary.Greater b) p = refl
-node_entry (Bin a binary.Equal b) p = refl
-node_entry (Bin a binary.And b) p = refl
-node_entry (Bin a binary.Or b) p = refl
-node_entry Skip p = refl
-node_entry (Assign x a) p = refl
-node_entry (Seq a b) p = refl
-node_entry (Choice a b c) p = refl
-node_entry (Loop a b) p = refl
-node_entry (Input x) p = refl
-node_entry (Output a) p = refl
-node_entry (Program a) p = refl
-
-place_entry : (n : Node) (p : ℕ) → (entry n p).place ≡ p
-place_entry (Decl x y) p = refl
-place_entry (Const (Number z)) p = refl
-place_entry (Const (Truth b)) p = refl
-place_entry (Var x) p = refl
-place_entry (Uny o a) p = refl
-place_entry (Bin a o b) p = refl
-place_entry Skip p = refl
-place_entry (Assign x a) p = refl
-place_entry (Seq a b) p = refl
-place_entry (Choice a b c) p = refl
-place_entry (Loop a b) p = refl
-place_entry (Input x) p = refl
-place_entry (Output a) p = refl
-place_entry (Program a) p = refl
 
 pub known_entry : (n : Node) (p : ℕ) → few_names n ≡ true → p ≤ 16384 → known (entry n p) ≡ true
 known_entry n p f l =
-    and_from _ _ (ap known_node (node_entry n p) ∙ f) (ap (λ (q : ℕ). leb q 16384) (place_entry n p) ∙ le-leb p 16384 l)
+    and_from _ _ (ap known_node (entry_said n p) ∙ f) (ap (λ (q : ℕ). leb q 16384) (entry_placed n p) ∙ le-leb p 16384 l)
 
 -- 1 from b up to e, and 0 elsewhere
 abbrev pub within : ℕ → ℕ → ℕ → ℕ
@@ -138,8 +90,8 @@ module _ (b : ℕ) (es : List Entry) (qs ps : List Part) (n : Node) (p : ℕ) (s
   sound_push a g q l u w e j f h =
       let x = entry n p in
       let len : length (es ++ (x ∷ [])) ≡ suc (length es) = omega (arith, length_push es x) in
-      let is : sort (node x) ≡ s = ap sort (node_entry n p) ∙ e in
-      let has : parts (node x) ≡ qs = ap parts (node_entry n p) ∙ w in
+      let is : sort (node x) ≡ s = ap sort (entry_said n p) ∙ e in
+      let has : parts (node x) ≡ qs = ap parts (entry_said n p) ∙ w in
       let good : Good b (es ++ (x ∷ [])) (length es) x = record {
         says = known_entry n p f h;
         early = λ k. absurd (omega arith);

@@ -13,7 +13,8 @@ use Rattle.grammar.specs.Building.{declares, build_e, build_c}
 use Rattle.grammar.specs.Listing.{Listing, listing, adds, one, two, three, list, entries_of, laid}
 use Rattle.grammar.specs.Bounded.{BoundedE, BoundedC, BoundedDs, Bounded}
 use Rattle.grammar.proofs.OpenNumbered.{decl_entries, lists_decls, entries_count}
-use Rattle.grammar.proofs.OpenTables.{Sound, sound_push, sound_opens, inner, within_none, AllGood, Stand, node_entry, known_entry}
+use Rattle.grammar.proofs.OpenTables.{Sound, sound_push, sound_opens, inner, within_none, AllGood, Stand, known_entry}
+use Rattle.tosca.proofs.Entries.{entry_said}
 
 abbrev ats : List Part → List ℕ
 ats [] = []
@@ -111,7 +112,7 @@ module _ (b : ℕ) where
 
 -- the declarations are no parts, and have none
 decl_parts : (d : tree.Decl ℕ) → parts (node (entry (Decl d.name d.type) d.label)) ≡ []
-decl_parts d = ap parts (node_entry (Decl d.name d.type) d.label)
+decl_parts d = ap parts (entry_said (Decl d.name d.type) d.label)
 
 decls_good : (b : ℕ) (t : List Entry) (k : ℕ) (ds : List (tree.Decl ℕ)) → BoundedDs ds → k + length (decl_entries ds) ≤ b → AllGood b t k (decl_entries ds)
 decls_good b t k [] h l = tt
@@ -119,7 +120,7 @@ decls_good b t k (d ∷ ds) h l =
     let n = Decl d.name d.type in (
       record {
         says = known_entry n d.label (lt-ltb d.name 64 h.1) h.0;
-        early = λ j. ap sort (node_entry n d.label);
+        early = λ j. ap sort (entry_said n d.label);
         late = λ j. absurd (omega arith);
         stands = subst (λ ps. Stand t k ps) (sym (decl_parts d)) tt;
       },

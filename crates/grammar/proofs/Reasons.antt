@@ -28,7 +28,7 @@ data Halt {S : Type 0} (act : Act → S → S) (e : Ending) (J : List Sym) (r : 
 
 pub stop_few : (t : Tok) → is_stop t ≡ true → few t ≡ true
 stop_few (mark m) h = refl
-stop_few (name n) h = absurd (let z : ◌≡◌ {A = ℕ} 0 1 = cc in omega arith)
+stop_few (name n) h = absurd (cc)
 stop_few (lit x) h = refl
 stop_few (op x) h = refl
 stop_few (pre x) h = refl
@@ -39,14 +39,14 @@ stop_few (ty x) h = refl
 
 many : (P : Tok → Type 0) (t : Tok) → few t ≡ false → ((m : ℕ) → 64 ≤ m → P (name m)) → P t
 many P (name m) h f = f m (ltb-false m 64 h)
-many P (mark x) h f = absurd (let z : ◌≡◌ {A = ℕ} 0 1 = cc in omega arith)
-many P (lit x) h f = absurd (let z : ◌≡◌ {A = ℕ} 0 1 = cc in omega arith)
-many P (op x) h f = absurd (let z : ◌≡◌ {A = ℕ} 0 1 = cc in omega arith)
-many P (pre x) h f = absurd (let z : ◌≡◌ {A = ℕ} 0 1 = cc in omega arith)
-many P (start x) h f = absurd (let z : ◌≡◌ {A = ℕ} 0 1 = cc in omega arith)
-many P else' h f = absurd (let z : ◌≡◌ {A = ℕ} 0 1 = cc in omega arith)
-many P unused h f = absurd (let z : ◌≡◌ {A = ℕ} 0 1 = cc in omega arith)
-many P (ty x) h f = absurd (let z : ◌≡◌ {A = ℕ} 0 1 = cc in omega arith)
+many P (mark x) h f = absurd (cc)
+many P (lit x) h f = absurd (cc)
+many P (op x) h f = absurd (cc)
+many P (pre x) h f = absurd (cc)
+many P (start x) h f = absurd (cc)
+many P else' h f = absurd (cc)
+many P unused h f = absurd (cc)
+many P (ty x) h f = absurd (cc)
 
 module _ {S : Type 0} (act : Act → S → S) where
   -- a front that is read: the plain run goes on from where it led
@@ -120,8 +120,8 @@ module _ {S : Type 0} (act : Act → S → S) where
 
 module _ {S : Type 0} (act : Act → S → S) (e : Ending) (n p : ℕ) where
   at_end_lem : (f : Ending) (v : Seen S) → ending f v ≡ refused n p → f ≡ bad n p
-  at_end_lem over no h = absurd (let z : ◌≡◌ {A = ℕ} 0 1 = cc in omega arith)
-  at_end_lem over (yes s) h = absurd (let z : ◌≡◌ {A = ℕ} 0 1 = cc in omega arith)
+  at_end_lem over no h = absurd (cc)
+  at_end_lem over (yes s) h = absurd (cc)
   at_end_lem (bad m q) v h = let a : m ≡ n = cc in let b : q ≡ p = cc in ap (λ x. bad x q) a ∙ ap (bad n) b
 
   -- a halt with the number and place of the refusal
@@ -150,7 +150,7 @@ module _ {S : Type 0} (act : Act → S → S) (e : Ending) (n p : ℕ) where
         let deep : is_stop t ≡ true → K' ≡ [] → ⊥ = λ b z. let m : marks K' ≡ 0 = ap marks z in omega arith in
         here (numbered (at_depth st (closes act (is_stop t) K' deep l) (goes_past act (is_stop t) K' deep l) (omega arith)) k)
     asks K' s' st l d x h o (too_many u v) k =
-        let c' = closes act (is_stop t) K' (λ b z. let w = stop_few t b in let y : ◌≡◌ {A = ℕ} 0 1 = cc in omega arith) l in
+        let c' = closes act (is_stop t) K' (λ b z. let w = stop_few t b in cc) l in
         here (numbered (many (λ w. step act K s w q ≡ go K' s' → Halt act e K s (at w q ∷ ts) 7 q) t v (λ m y st'. at_name st' c' u y) st) k)
 
     moves : marks K ≤ 32 → (is_stop t ≡ true → (ts ≡ []) × (e ≡ over)) → ((K' : List Sym) (s' : S) → Closing K' → marks K' ≤ 32 → run act (limits e) K' s' ts ≡ refused n p → Halted act e n p K' s' ts) →

@@ -1,8 +1,9 @@
-// The symbols of the grammar, grouped by the part that they play in it.
-ghost use Rattle.std.specs.Prelude.{◌≡◌};
+// The symbols of the grammar, grouped by the part that they play in it. That of an operator becomes the operator.
+ghost use Rattle.std.specs.Prelude.{◌≡◌, Some};
 ghost use Rattle.grammar.specs.Building.{mul_op, add_op, rel_op};
 ghost use Rattle.grammar.specs.Spelling.{spelled};
 
+use std::fmt::{Display, Formatter, Result, Write};
 use tosca::operators::Binary;
 
 #[derive(Clone, Copy, PartialEq, Debug)]
@@ -12,12 +13,11 @@ pub enum Multiplying {
     And,
 }
 
-impl Multiplying {
-    // The operator that the symbol stands for.
-    pub fn operator(self) -> Binary
-        ensures { result ≡ mul_op self }
-    {
-        match self {
+impl From<Multiplying> for Binary {
+    ghost from_gives = { λ symbol op. op ≡ mul_op symbol };
+
+    fn from(symbol: Multiplying) -> Binary {
+        match symbol {
             Multiplying::Times => Binary::Multiply,
             Multiplying::Div => Binary::Divide,
             Multiplying::And => Binary::And,
@@ -32,12 +32,11 @@ pub enum Adding {
     Or,
 }
 
-impl Adding {
-    // The operator that the symbol stands for.
-    pub fn operator(self) -> Binary
-        ensures { result ≡ add_op self }
-    {
-        match self {
+impl From<Adding> for Binary {
+    ghost from_gives = { λ symbol op. op ≡ add_op symbol };
+
+    fn from(symbol: Adding) -> Binary {
+        match symbol {
             Adding::Plus => Binary::Add,
             Adding::Minus => Binary::Subtract,
             Adding::Or => Binary::Or,
@@ -52,12 +51,11 @@ pub enum Relation {
     Greater,
 }
 
-impl Relation {
-    // The operator that the symbol stands for.
-    pub fn operator(self) -> Binary
-        ensures { result ≡ rel_op self }
-    {
-        match self {
+impl From<Relation> for Binary {
+    ghost from_gives = { λ symbol op. op ≡ rel_op symbol };
+
+    fn from(symbol: Relation) -> Binary {
+        match symbol {
             Relation::Equal => Binary::Equal,
             Relation::Less => Binary::Less,
             Relation::Greater => Binary::Greater,
@@ -109,12 +107,12 @@ pub enum Mark {
     Stop,
 }
 
-impl Mark {
-    // How a message names the symbol.
-    pub fn spelling(self) -> &'static str
-        ensures { result.now ≡ spelled self }
-    {
-        match self {
+// How a message names the symbol.
+impl Display for Mark {
+    ghost output = { λ mark. Some (spelled mark) };
+
+    fn fmt<W: Write>(&self, f: &mut Formatter<W>) -> Result {
+        f.write_str(match self {
             Mark::Program => "`program`",
             Mark::Var => "`var`",
             Mark::Semicolon => "`;`",
@@ -128,6 +126,6 @@ impl Mark {
             Mark::End => "`end`",
             Mark::Period => "`.`",
             Mark::Stop => "the end of the text",
-        }
+        })
     }
 }

@@ -1,5 +1,6 @@
 -- The laws of the table's format. Assumes nothing.
-use Rattle.std.proofs.Common.{◌≡◌, ℕ, true, false, Some, refl}
+use Rattle.std.proofs.Common.{◌≡◌, ℕ, true, false, Some, refl, ap}
+use Rattle.std.specs.Option.{option_map}
 use Rattle.std.specs.Fmt.{digits}
 use Rattle.tosca.specs.declared.operators.SimpleType.TheVariants.{Integer, Boolean}
 use Rattle.tosca.specs.declared.operators.Value.TheVariants.{Number, Truth}
@@ -8,20 +9,21 @@ use Rattle.tosca.specs.declared.operators.Binary.{Binary}
 use Rattle.tosca.specs.declared.operators.Binary.TheVariants.{Add, Subtract, Multiply, Divide, Round, Less, Greater, Equal, And, Or}
 use Rattle.tosca.specs.declared.table.Node.{Node}
 use Rattle.tosca.specs.declared.table.Node.TheVariants.{Decl, Const, Var, Uny, Bin, Skip, Assign, Seq, Choice, Loop, Input, Output, Program}
-use Rattle.tosca.specs.Table.{entry, node}
+use Rattle.tosca.specs.Table.{binary_code, binary_of, entry, node}
 use Rattle.tosca.specs.TableLaws.{Faithful, Written}
 
-bin_said : (a b p : ℕ) (o : Binary) → node (entry (Bin a o b) p) ≡ Some (Bin a o b)
-bin_said a b p Add = refl
-bin_said a b p Subtract = refl
-bin_said a b p Multiply = refl
-bin_said a b p Divide = refl
-bin_said a b p Round = refl
-bin_said a b p Less = refl
-bin_said a b p Greater = refl
-bin_said a b p Equal = refl
-bin_said a b p And = refl
-bin_said a b p Or = refl
+-- a code is read as the operator that it is written for
+pub binary_coded : (o : Binary) → binary_of (binary_code o) ≡ Some o
+binary_coded Add = refl
+binary_coded Subtract = refl
+binary_coded Multiply = refl
+binary_coded Divide = refl
+binary_coded Round = refl
+binary_coded Less = refl
+binary_coded Greater = refl
+binary_coded Equal = refl
+binary_coded And = refl
+binary_coded Or = refl
 
 pub entry_said : (n : Node) (p : ℕ) → node (entry n p) ≡ Some n
 entry_said (Decl x Integer) p = refl
@@ -32,7 +34,7 @@ entry_said (Const (Truth false)) p = refl
 entry_said (Var x) p = refl
 entry_said (Uny Negate a) p = refl
 entry_said (Uny Not a) p = refl
-entry_said (Bin a o b) p = bin_said a b p o
+entry_said (Bin a o b) p = ap (option_map (λ (x : Binary). Bin a x b)) (binary_coded o)
 entry_said Skip p = refl
 entry_said (Assign x a) p = refl
 entry_said (Seq a b) p = refl

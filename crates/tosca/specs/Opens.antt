@@ -1,5 +1,6 @@
 -- The questions that a node table is asked before it counts as a routine: 11, 12, 13 and 14, in this order.
 use Rattle.std.specs.Prelude.{ℕ, suc, ◌+◌, Bool, true, false, cond, not, ◌&&◌, List, [], ◌∷◌, length, take, Some, None, Option, ◌==◌, nat_le, nat_lt, slice_index_or}
+use Rattle.std.specs.List.{list_all}
 use Rattle.tosca.specs.declared.table.Entry.{Entry}
 use Rattle.tosca.specs.declared.table.Node.{Node}
 use Rattle.tosca.specs.declared.table.Node.TheVariants.{Decl, Const, Var, Uny, Bin, Skip, Assign, Seq, Choice, Loop, Input, Output, Program}
@@ -91,8 +92,7 @@ abbrev pub known : Entry → Bool
 known e = known_node (node e) && nat_le e.place 16384
 
 abbrev pub are_known : List Entry → Bool
-are_known [] = true
-are_known (e ∷ es) = known e && are_known es
+are_known = list_all known
 
 -- 13, of the parts of entry k: each stands earlier and has its sort
 abbrev pub placed : List Entry → ℕ → List Part → Bool
@@ -125,8 +125,7 @@ are_once t k [] = true
 are_once t k (e ∷ es) = once t k (sort (node e)) && are_once t (suc k) es
 
 abbrev pub no_decl : List Entry → Bool
-no_decl [] = true
-no_decl (e ∷ es) = not (same_sort (sort (node e)) is_decl) && no_decl es
+no_decl = list_all (λ e. not (same_sort (sort (node e)) is_decl))
 
 abbrev pub decls_first : List Entry → Bool
 decls_first [] = true

@@ -1,5 +1,5 @@
 -- The node table's format: what each entry of numbers says, and which numbers say it.
-use Rattle.std.specs.Prelude.{ℕ, true, false, cond, ℤ, pos, negsuc, Some, None, Option, ◌==◌}
+use Rattle.std.specs.Prelude.{ℕ, true, false, cond, ℤ, pos, negsuc, Some, None, Option, Result, ok_or, ◌==◌}
 use Rattle.std.specs.Option.{option_map}
 use Rattle.tosca.specs.declared.operators.SimpleType.{SimpleType}
 use Rattle.tosca.specs.declared.operators.SimpleType.TheVariants.{Integer, Boolean}
@@ -9,6 +9,7 @@ use Rattle.tosca.specs.declared.operators.Unary.{Unary}
 use Rattle.tosca.specs.declared.operators.Unary.TheVariants.{Negate, Not}
 use Rattle.tosca.specs.declared.operators.Binary.{Binary}
 use Rattle.tosca.specs.declared.operators.Binary.TheVariants.{Add, Subtract, Multiply, Divide, Round, Less, Greater, Equal, And, Or}
+use Rattle.tosca.specs.declared.codes.UnknownCode.{UnknownCode}
 use Rattle.tosca.specs.declared.table.Entry.{Entry}
 use Rattle.tosca.specs.declared.table.Node.{Node}
 use Rattle.tosca.specs.declared.table.Node.TheVariants.{Decl, Const, Var, Uny, Bin, Skip, Assign, Seq, Choice, Loop, Input, Output, Program}
@@ -57,6 +58,10 @@ binary_of c =
     (cond (c == 10) (Some Equal)
     (cond (c == 11) (Some And)
     (cond (c == 12) (Some Or) None)))))))))
+
+-- what a code is read as, by what it names
+abbrev pub from_code : {T : Type 0} → (ℕ → Option T) → ℕ → Result T UnknownCode
+from_code named c = ok_or (named c) (record { 0 = c })
 
 -- a constant's value: a truth value is 0 or 1, and an integer is any that the field holds, which has 32 bits
 abbrev pub constant : SimpleType → ℤ → Option Value

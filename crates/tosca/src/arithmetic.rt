@@ -9,10 +9,7 @@ impl Cause {
     pub fn number(self) -> u8
         ensures { result ≡ cause_number self }
     {
-        match self {
-            Cause::Range => 1,
-            Cause::ZeroDivisor => 2,
-        }
+        self as u8
     }
 }
 
@@ -22,7 +19,7 @@ impl Unary {
     {
         match self {
             Unary::Negate => a.checked_neg().ok_or(Cause::Range),
-            Unary::Not => Ok((a == 0) as i32),
+            Unary::Not => Ok(i32::from(a == 0)),
         }
     }
 }
@@ -37,11 +34,11 @@ impl Binary {
             Binary::Multiply => a.checked_mul(b).ok_or(Cause::Range),
             Binary::Divide => divide(a, b),
             Binary::Round => round(a, b),
-            Binary::Less => Ok((a < b) as i32),
-            Binary::Greater => Ok((a > b) as i32),
-            Binary::Equal => Ok((a == b) as i32),
-            Binary::And => Ok((a != 0 && b != 0) as i32),
-            Binary::Or => Ok((a != 0 || b != 0) as i32),
+            Binary::Less => Ok(i32::from(a < b)),
+            Binary::Greater => Ok(i32::from(a > b)),
+            Binary::Equal => Ok(i32::from(a == b)),
+            Binary::And => Ok(i32::from(a != 0 && b != 0)),
+            Binary::Or => Ok(i32::from(a != 0 || b != 0)),
         }
     }
 }
@@ -62,10 +59,7 @@ fn round(a: i32, b: i32) -> Result<i32, Cause>
         return Err(Cause::ZeroDivisor);
     }
     let size = rounded_size(a.unsigned_abs(), b.unsigned_abs());
-    match i32::try_from(with_sign(a, b, size)) {
-        Ok(x) => Ok(x),
-        Err(_) => Err(Cause::Range),
-    }
+    i32::try_from(with_sign(a, b, size)).map_err(|_| Cause::Range)
 }
 
 // The nearest integer to n / d, halves upward.
@@ -73,7 +67,7 @@ fn rounded_size(n: u32, d: u32) -> u64
     requires { 0 < d }
     ensures { result ≡ (2 * n + d) / (2 * d) }
 {
-    (2 * n as u64 + d as u64) / (2 * d as u64)
+    (2 * u64::from(n) + u64::from(d)) / (2 * u64::from(d))
 }
 
 // A size with the sign of a / b.

@@ -3,7 +3,7 @@ ghost use Rattle.tosca.specs.ArithmeticLaws.{Divides, Rounds, Limits, Kept, Zero
 ghost use Rattle.tosca.specs.DecodeLaws.{Fuelled, Stepwise, Prefixed};
 ghost use Rattle.tosca.specs.TableLaws.{Faithful, Written};
 
-pub fn arithmetic_laws() -> u8
+pub fn arithmetic_laws()
     ensures divides { Divides }
     ensures rounds { Rounds }
     ensures limits { Limits }
@@ -11,21 +11,15 @@ pub fn arithmetic_laws() -> u8
     ensures zeros { Zeros }
     ensures tests { Tests }
     ensures worked { Worked }
-{
-    0
-}
+{}
 
-pub fn table_laws() -> u8
+pub fn table_laws()
     ensures faithful { Faithful }
     ensures written { Written }
-{
-    0
-}
+{}
 
-pub fn decode_laws() -> u8
+pub fn decode_laws()
     ensures fuelled { Fuelled }
     ensures stepwise { Stepwise }
     ensures prefixed { Prefixed }
-{
-    0
-}
+{}

@@ -2,6 +2,7 @@
 #![tactic(auto)]
 
 pub mod arithmetic;
+pub mod codes;
 pub mod display;
 pub mod laws;
 pub mod operators;

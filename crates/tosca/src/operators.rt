@@ -1,9 +1,9 @@
-// Types, values and operators.
+// Types, values and operators. The numbers of types and operators are their codes in the table formats.
 
 #[derive(Clone, Copy, PartialEq, Debug)]
 pub enum SimpleType {
-    Integer,
-    Boolean,
+    Integer = 1,
+    Boolean = 2,
 }
 
 // What a constant is, and what a variable holds.
@@ -16,28 +16,28 @@ pub enum Value {
 // Operators of one operand.
 #[derive(Clone, Copy, PartialEq, Debug)]
 pub enum Unary {
-    Negate,
-    Not,
+    Negate = 1,
+    Not = 2,
 }
 
-// Operators of two operands.
+// Operators of two operands. Their codes come after the unary ones, so that a code is one operator.
 #[derive(Clone, Copy, PartialEq, Debug)]
 pub enum Binary {
-    Add,
-    Subtract,
-    Multiply,
-    Divide,
-    Round,
-    Less,
-    Greater,
-    Equal,
-    And,
-    Or,
+    Add = 3,
+    Subtract = 4,
+    Multiply = 5,
+    Divide = 6,
+    Round = 7,
+    Less = 8,
+    Greater = 9,
+    Equal = 10,
+    And = 11,
+    Or = 12,
 }
 
 // Why an operator has no value.
 #[derive(Clone, Copy, PartialEq, Debug)]
 pub enum Cause {
-    Range,
-    ZeroDivisor,
+    Range = 1,
+    ZeroDivisor = 2,
 }

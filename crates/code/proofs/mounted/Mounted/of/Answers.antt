@@ -1,4 +1,4 @@
-use Rattle.std.proofs.Common.{◌-◌, refl, arith}
+use Rattle.std.proofs.Common.{refl, arith}
 use Rattle.std.proofs.lemmas.List.{length-take}
 use Rattle.code.proofs.Mountable.{mountable, code_is, rest_is, each_is, code_addressed}
 use Rattle.code.proofs.mounted.Mounted.of.Goals as goal
@@ -6,7 +6,7 @@ use Rattle.code.proofs.mounted.Mounted.of.Goals as goal
 pub decoded-requires : goal.decoded-requires
 decoded-requires c =
     let m = mountable c.args.table.now c.args.count c.requires in
-    omega (arith, length-take (c.args.count - 0) c.args.table.now)
+    omega (arith, length-take c.args.count c.args.table.now)
 
 pub invariant_of-result : goal.invariant_of-result
 invariant_of-result c =

@@ -1,6 +1,0 @@
-use Rattle.std.proofs.Common.{◌≡◌, drop}
-use Rattle.code.specs.Questions.{are_known}
-use Rattle.code.proofs.questions.all_known.Given as goal
-
-abbrev pub invariant-loop-entry : goal.invariant-loop-entry
-invariant-loop-entry l = are_known l.entries ≡ are_known (drop l.entry-index l.entries)

@@ -1,7 +1,8 @@
 -- A text may be cut before or after any token, and go on with a blank and other bytes: the tokens before the cut stay.
-use Rattle.std.proofs.Common.{◌≡◌, ℕ, suc, ◌+◌, ◌-◌, ◌<◌, ◌≤◌, Bool, true, false, cond, ◌&&◌, eqb, ◌⊎◌, List, [], ◌∷◌, ◌++◌, length, take, drop, Some, None, Option, sym, refl, ap, ◌∙◌, subst, ap₂, inl, inr, ⊎_elim, append_assoc, arith, length-append, length-drop, take-append-drop, length-take}
+use Rattle.std.proofs.Common.{◌≡◌, ℕ, ◌+◌, ◌-◌, ◌<◌, ◌≤◌, Bool, true, false, cond, ◌&&◌, eqb, ◌⊎◌, List, [], ◌∷◌, ◌++◌, length, take, drop, Some, None, Option, sym, refl, ap, ◌∙◌, subst, ap₂, one-add, inl, inr, ⊎_elim, append_assoc, arith, length-append, length-drop, take-append-drop, length-take}
 use mathlib.Core.Bool.{and-false}
 use mathlib.Core.List.{append_cancel_right}
+use Rattle.std.proofs.lemmas.List.Sums.{prefix_len-le-length}
 use borrow.Author.Tests.{clash}
 use Rattle.grammar.specs.declared.symbols.Mark.TheVariants.{Becomes}
 use Rattle.grammar.specs.Tokens.{Tok, mark}
@@ -10,7 +11,7 @@ use Rattle.lexer.specs.Words.{symbol}
 use Rattle.lexer.specs.Lexemes.{Raw, number, other, Gap, gap, unclosed, Mode, outside, inside, skip_in, skip, Lexed, lexeme, none, symbol_or, symbol_at, keyword, word_at, touched, number_at, token_at, lex_from, lex}
 use Rattle.lexer.specs.Scan.{Scan, more, broken, over, is_stop, onward, scan}
 use Rattle.lexer.specs.NameLaws.{Piece, piece, onto}
-use Rattle.lexer.proofs.Scanning.{by_cond, Left, left, run_within, Taken, Bounded, token_ends, shorter_of, Scans, breaks, stops, goes, scans, unfolds}
+use Rattle.lexer.proofs.Scanning.{by_cond, Left, left, Taken, Bounded, token_ends, shorter_of, Scans, breaks, stops, goes, scans, unfolds}
 
 by_cond₂ : {X : Type 0} (P : X → X → Type 0) (b : Bool) (x y u v : X) → (b ≡ true → P x u) → (b ≡ false → P y v) → P (cond b x y) (cond b u v)
 by_cond₂ P true x y u v f g = f refl
@@ -43,17 +44,17 @@ record Runs (n m : ℕ) (us vs left : List ℕ) : Type 0 where
   back : drop m vs ≡ left
 
 no_run : (f : ℕ → Bool) (ys zs : List ℕ) → drop (run f ys) ys ≡ zs ++ ys → (run f ys ≡ 0) × (zs ≡ [])
-no_run f ys [] h = let a = run_within f ys in let b = length-drop (run f ys) ys in let c = ap length h in (omega arith, refl)
-no_run f ys (z ∷ zs) h = let a = run_within f ys in let b = length-drop (run f ys) ys in let c = ap length h in let d = length-append zs ys in absurd (omega arith)
+no_run f ys [] h = let a = prefix_len-le-length f ys in let b = length-drop (run f ys) ys in let c = ap length h in (omega arith, refl)
+no_run f ys (z ∷ zs) h = let a = prefix_len-le-length f ys in let b = length-drop (run f ys) ys in let c = ap length h in let d = length-append zs ys in absurd (omega arith)
 
 run_cut : (f : ℕ → Bool) (c : ℕ) (cs : List ℕ) → f c ≡ false → (xs ys zs : List ℕ) → drop (run f (xs ++ ys)) (xs ++ ys) ≡ zs ++ ys → Runs (run f (xs ++ ys)) (run f (xs ++ (c ∷ cs))) (xs ++ ys) (xs ++ (c ∷ cs)) (zs ++ (c ∷ cs))
 run_cut f c cs e [] ys zs h =
     let k = no_run f ys zs h in
-    let n : run f (c ∷ cs) ≡ 0 = ap (λ b. cond b (suc (run f cs)) 0) e in
+    let n : run f (c ∷ cs) ≡ 0 = ap (λ b. cond b (1 + run f cs) 0) e in
     record { count = k.0 ∙ sym n; front = ap (λ i. take i ys) k.0 ∙ sym (ap (λ i. take i (c ∷ cs)) n); back = ap (λ i. drop i (c ∷ cs)) n ∙ ap (λ us. us ++ (c ∷ cs)) (sym k.1) }
 run_cut f c cs e (x ∷ xs) ys zs h =
-    by_cond₂ (λ n m. drop n (x ∷ (xs ++ ys)) ≡ zs ++ ys → Runs n m (x ∷ (xs ++ ys)) (x ∷ (xs ++ (c ∷ cs))) (zs ++ (c ∷ cs))) (f x) (suc (run f (xs ++ ys))) 0 (suc (run f (xs ++ (c ∷ cs)))) 0
-    (λ _ k. let r = run_cut f c cs e xs ys zs k in record { count = ap suc r.count; front = ap (λ us. x ∷ us) r.front; back = r.back })
+    by_cond₂ (λ n m. drop n (x ∷ (xs ++ ys)) ≡ zs ++ ys → Runs n m (x ∷ (xs ++ ys)) (x ∷ (xs ++ (c ∷ cs))) (zs ++ (c ∷ cs))) (f x) (1 + run f (xs ++ ys)) 0 (1 + run f (xs ++ (c ∷ cs))) 0
+    (λ _ k. let r = run_cut f c cs e xs ys zs (simp one-add at k) in record { count = ap (λ n. 1 + n) r.count; front = simp one-add (ap (λ us. x ∷ us) r.front); back = simp one-add r.back })
     (λ _ k. record { count = refl; front = refl; back = ap (λ us. us ++ (c ∷ cs)) (append_cancel_right (x ∷ xs) zs ys k) }) h
 
 word_cut : (p : ℕ) (xs ys cs : List ℕ) → Stays ys (32 ∷ cs) (word_at p (xs ++ ys)) (word_at p (xs ++ (32 ∷ cs)))

@@ -1,10 +1,8 @@
-pub mod Steps
-pub mod Symbols
 pub mod Reserving
 pub mod Scanning
 pub mod Splitting
 pub mod Numbering
 pub mod Cutting
 pub mod Spelled
-pub mod Longer
 pub mod Comments
+pub mod Digits

@@ -1,6 +1,7 @@
 -- The numbers of names.
-use Rattle.std.proofs.Common.{◌≡◌, ℕ, suc, ◌<◌, ◌≤◌, Bool, true, false, cond, ◌&&◌, eqb, ltb, ◌⊎◌, ◌↔◌, List, [], ◌∷◌, ◌++◌, length, drop, sym, refl, ap, ◌∙◌, subst, ap₂, inl, inr, ⊎_elim, arith, length-append, ltb-false, ltb-true, lt-ltb, eq-eqb, eqb-true}
+use Rattle.std.proofs.Common.{◌≡◌, ℕ, suc, ◌<◌, ◌≤◌, Bool, true, false, cond, ltb, ◌⊎◌, ◌↔◌, List, [], ◌∷◌, ◌++◌, length, drop, sym, refl, ap, ◌∙◌, subst, inl, inr, ⊎_elim, arith, length-append, ltb-false, ltb-true, lt-ltb}
 use borrow.Author.Tests.{clash}
+use Rattle.std.proofs.lemmas.Slice.Eq.{bytes_eq-Decides}
 use Rattle.grammar.specs.Tokens as g
 use Rattle.grammar.specs.Limits.{few}
 use Rattle.lexer.specs.Spelling.{lowered, same}
@@ -12,18 +13,10 @@ use Rattle.lexer.proofs.Scanning.{by_cond, named, shorter_of, Scans, breaks, sto
 use Rattle.lexer.proofs.Splitting.{find_token}
 
 pub same_refl : (w : List ℕ) → same w w ≡ true
-same_refl [] = refl
-same_refl (b ∷ bs) = ap (λ x. x && same bs bs) (eq-eqb b b refl) ∙ same_refl bs
+same_refl w = (bytes_eq-Decides w w).1 refl
 
 pub same_is : (v w : List ℕ) → same v w ≡ true → v ≡ w
-same_is [] [] h = refl
-same_is [] (c ∷ cs) h = absurd (clash h)
-same_is (b ∷ bs) [] h = absurd (clash h)
-same_is (b ∷ bs) (c ∷ cs) h = let k = parts (eqb b c) h in ap₂ {C = List ℕ} (λ x xs. x ∷ xs) (eqb-true b c k.0) (same_is bs cs k.1)
-  where
-    parts : (x : Bool) → (x && same bs cs) ≡ true → (x ≡ true) × (same bs cs ≡ true)
-    parts true e = (refl, e)
-    parts false e = absurd (clash e)
+same_is v w h = (bytes_eq-Decides v w).0 h
 
 pub index_within : (w : List ℕ) (xs : List (List ℕ)) → index w xs ≤ length xs
 index_within w [] = omega arith

@@ -1,19 +1,38 @@
--- The program's table of words holds the reserved words.
-use Rattle.std.proofs.Common.{◌≡◌, ℕ, ◌<◌, Bool, true, false, cond, List, [], ◌∷◌, length, get_or, Some, None, Option, refl, arith}
+-- Words that are the same, and the program's table of words, which holds the reserved ones.
+use Rattle.std.proofs.Common.{◌≡◌, ℕ, Bool, true, false, cond, List, [], ◌∷◌, Some, None, Option, ◌↔◌, IsTrue, refl, ap, ◌∙◌, find as find_by}
+use Rattle.std.specs.Option.{option_map, unwrap_or}
+use Rattle.std.proofs.lemmas.Bool.Decides.{same_from_decides}
+use Rattle.std.proofs.lemmas.Slice.Eq.{bytes_eq-Decides}
 use Rattle.grammar.specs.Tokens.{Tok}
+use Rattle.lexer.specs.declared.token.Token.{Token}
 use Rattle.lexer.specs.declared.words.ReservedWord.{ReservedWord}
 use Rattle.lexer.specs.Spelling.{lowered, same}
-use Rattle.lexer.specs.Words.{Word, find}
-use Rattle.lexer.specs.Lexemes.{Raw, other, word_or}
-use Rattle.lexer.specs.Found.{others, Row, rows, find_row}
-use Rattle.lexer.proofs.Steps.{behind, behind_cons}
+use Rattle.lexer.specs.Words.{Word, find, reserved}
+use Rattle.lexer.specs.Lexemes.{Raw, name, other, meant, word_or}
+use Rattle.lexer.specs.Found.{meant_some, others, Row, rows, find_row}
+
+-- two words are the same where their bytes are
+pub same_from_equal : (v w : List ℕ) (b : Bool) → IsTrue b ↔ (v ≡ w) → b ≡ same v w
+same_from_equal v w b h = same_from_decides b (same v w) h (bytes_eq-Decides v w)
+
+-- the first of the program's words that is spelled so
+row_found : (w : List ℕ) (xs : List ReservedWord) → meant_some (option_map (λ r. r.1) (find_by (λ r. same w (lowered r.0.now)) xs)) ≡ find_row w (rows xs)
+row_found w [] = refl
+row_found w (x ∷ xs) = go (same w (lowered x.0.now)) (row_found w xs)
+  where
+    go : (b : Bool) → meant_some (option_map (λ r. r.1) (find_by (λ r. same w (lowered r.0.now)) xs)) ≡ find_row w (rows xs) → meant_some (option_map (λ r. r.1) (cond b (Some x) (find_by (λ r. same w (lowered r.0.now)) xs))) ≡ cond b (Some (meant x.1)) (find_row w (rows xs))
+    go true e = refl
+    go false e = e
+
+pub found : (w : List ℕ) (t : Option Token) (xs : List ReservedWord) → t ≡ option_map (λ r. r.1) (find_by (λ r. same w (lowered r.0.now)) xs) → meant_some t ≡ find_row w (rows xs)
+found w t xs h = ap meant_some h ∙ row_found w xs
 
 -- the table that would hold these words
 abbrev pub table : List Word → List Row
 table [] = []
 table (x ∷ xs) = record { spelled = x.spelled; token = other x.token } ∷ table xs
 
-pub find_table : (w : List ℕ) (xs : List Word) → find_row w (table xs) ≡ others (find w xs)
+find_table : (w : List ℕ) (xs : List Word) → find_row w (table xs) ≡ others (find w xs)
 find_table w [] = refl
 find_table w (x ∷ xs) = go (same w x.spelled) (find_table w xs)
   where
@@ -21,15 +40,11 @@ find_table w (x ∷ xs) = go (same w x.spelled) (find_table w xs)
     go true e = refl
     go false e = e
 
-pub found : (w : List ℕ) (r : Raw) (o : Option Tok) → Some r ≡ others o → r ≡ word_or w o
-found w r (Some t) h = cc
-found w r None h = let z : ◌≡◌ {A = ℕ} 0 1 = cc in absurd (omega arith)
+pub found_reserved : (w : List ℕ) (o : Option Raw) → o ≡ find_row w (table reserved) → o ≡ others (find w reserved)
+found_reserved w o h = h ∙ find_table w reserved
 
--- the table without its first row, which is spelled otherwise
-pub row_step : (w : List ℕ) (xs : List ReservedWord) (d : ReservedWord) → 0 < length xs → same w (lowered (get_or xs 0 d).0.now) ≡ false → find_row w (rows (behind xs)) ≡ find_row w (rows xs)
-row_step w [] d h e = absurd (omega arith)
-row_step w (x ∷ xs) d h e = rw (behind_cons x xs, e)
-
-pub row_stop : (w : List ℕ) (xs : List ReservedWord) → length xs ≡ 0 → None ≡ find_row w (rows xs)
-row_stop w [] h = refl
-row_stop w (x ∷ xs) h = absurd (omega arith)
+pub word_or_name : (w : List ℕ) (t : Option Token) (d : Token) (o : Option Tok) → meant_some t ≡ others o → meant d ≡ name w → meant (unwrap_or t d) ≡ word_or w o
+word_or_name w (Some t) d (Some o) h e = cc
+word_or_name w (Some t) d None h e = absurd cc
+word_or_name w None d (Some o) h e = absurd cc
+word_or_name w None d None h e = e

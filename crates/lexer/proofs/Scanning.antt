@@ -1,5 +1,6 @@
 -- Each token but the end takes a byte or more, so the bound in a scan is never met; places and the end of a scan.
-use Rattle.std.proofs.Common.{◌≡◌, ℕ, zero, suc, ◌+◌, ◌<◌, ◌≤◌, Bool, true, false, cond, ◌&&◌, eqb, leb, ◌⊎◌, List, [], ◌∷◌, ◌++◌, length, take, drop, Some, None, Option, sym, refl, ap, ◌∙◌, subst, inl, inr, ⊎_elim, arith, length-drop, leb-false}
+use Rattle.std.proofs.Common.{◌≡◌, ℕ, zero, suc, ◌+◌, ◌<◌, ◌≤◌, Bool, true, false, cond, ◌&&◌, ◌||◌, eqb, leb, ◌⊎◌, List, [], ◌∷◌, ◌++◌, length, take, drop, Some, None, Option, sym, refl, ap, ◌∙◌, subst, inl, inr, ⊎_elim, arith, length-drop, leb-false}
+use Rattle.std.proofs.lemmas.List.Sums.{prefix_len-le-length}
 use borrow.Author.Tests.{clash, lt-leb}
 use Rattle.grammar.specs.declared.symbols.Mark.TheVariants.{Program, Var, Semicolon, Comma, Colon, Becomes, Close, Slash, Then, Do, End, Period, Stop}
 use Rattle.grammar.specs.Tokens.{Tok, Item, at, mark}
@@ -97,10 +98,6 @@ taken p n r cs e go some h = record { after = omega arith; forward = omega arith
 run_some : (f : ℕ → Bool) (b : ℕ) (bs : List ℕ) → f b ≡ true → 0 < run f (b ∷ bs)
 run_some f b bs e = rw e (omega arith)
 
-pub run_within : (f : ℕ → Bool) (bs : List ℕ) → run f bs ≤ length bs
-run_within f [] = omega arith
-run_within f (b ∷ bs) = let h = run_within f bs in by_cond (λ n. n ≤ suc (length bs)) (f b) (suc (run f bs)) 0 (λ _. omega arith) (λ _. omega arith)
-
 dropped : (p n : ℕ) (bs : List ℕ) → n ≤ length bs → p + n + length (drop n bs) ≡ p + length bs
 dropped p n bs h = let e = length-drop n bs in omega arith
 
@@ -126,16 +123,24 @@ word_goes w v (x ∷ xs) h =
 keyword_goes : (w : List ℕ) → Proper (keyword w)
 keyword_goes w = word_goes w (lowered w) reserved refl
 
+letter_starts : (b : ℕ) → letter b ≡ true → alphanumeric b ≡ true
+letter_starts b h = go (leb 48 b && leb b 57) (leb 65 b && leb b 90) (leb 97 b && leb b 122) h
+  where
+    go : (d a z : Bool) → a || z ≡ true → (d || a) || z ≡ true
+    go true true z e = refl
+    go true false z e = refl
+    go false a z e = e
+
 word_bounded : (p b : ℕ) (bs : List ℕ) → letter b ≡ true → Bounded p (p + length (b ∷ bs)) (word_at p (b ∷ bs))
 word_bounded p b bs h =
     taken p (run alphanumeric (b ∷ bs)) (keyword (take (run alphanumeric (b ∷ bs)) (b ∷ bs))) (drop (run alphanumeric (b ∷ bs)) (b ∷ bs)) _ (keyword_goes (take (run alphanumeric (b ∷ bs)) (b ∷ bs)))
-    (run_some alphanumeric b bs (rw h)) (dropped p (run alphanumeric (b ∷ bs)) (b ∷ bs) (run_within alphanumeric (b ∷ bs)))
+    (run_some alphanumeric b bs (letter_starts b h)) (dropped p (run alphanumeric (b ∷ bs)) (b ∷ bs) (prefix_len-le-length alphanumeric (b ∷ bs)))
 
 number_bounded : (p b : ℕ) (bs : List ℕ) → digit b ≡ true → Bounded p (p + length (b ∷ bs)) (number_at p (b ∷ bs))
 number_bounded p b bs h =
     by_cond (Bounded p (p + length (b ∷ bs))) (touched (drop (run digit (b ∷ bs)) (b ∷ bs))) _ _ (λ _. (refl, omega arith, omega arith))
     (λ _. taken p (run digit (b ∷ bs)) (number (take (run digit (b ∷ bs)) (b ∷ bs))) (drop (run digit (b ∷ bs)) (b ∷ bs)) _ (refl, refl)
-    (run_some digit b bs h) (dropped p (run digit (b ∷ bs)) (b ∷ bs) (run_within digit (b ∷ bs))))
+    (run_some digit b bs h) (dropped p (run digit (b ∷ bs)) (b ∷ bs) (prefix_len-le-length digit (b ∷ bs))))
 
 abbrev Goes : Option Tok → Type 0
 Goes (Some t) = Proper (other t)

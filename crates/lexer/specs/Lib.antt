@@ -1,5 +1,4 @@
 pub mod Spelling
-pub mod Classes
 pub mod Words
 pub mod Lexemes
 pub mod Scan

@@ -4,6 +4,10 @@ use Rattle.lexer.specs.Spelling.{value}
 use Rattle.lexer.specs.Lexemes.{Lexed, lexeme, none}
 use Rattle.lexer.specs.Scan.{limit}
 
+-- the number that digits spell, where it is at most this
+abbrev pub number_within : ℕ → List ℕ → Option ℕ
+number_within most ds = cond (nat_le (value ds) most) (Some (value ds)) None
+
 -- the number that digits spell, where it is at most 2,147,483,647
 abbrev pub decimal : List ℕ → Option ℤ
 decimal ds = cond (nat_le (value ds) 2147483647) (Some (pos (value ds))) None

@@ -1,111 +1,60 @@
-// Bytes: letters, digits and blanks, runs of them, and the number that digits spell.
+// Bytes: blanks, and the number that digits spell.
 ghost use Rattle.std.specs.Prelude.{◌≡◌, ◌≤◌, length};
-ghost use Rattle.lexer.specs.Spelling.{letter, digit, alphanumeric, blank, small, run};
-ghost use Rattle.lexer.specs.Classes.{test};
-ghost use Rattle.lexer.specs.Limited.{decimal};
+ghost use Rattle.lexer.specs.Spelling.{alphanumeric, blank, digit, run};
+ghost use Rattle.lexer.specs.Limited.{decimal, number_within};
 ghost use Rattle.lexer.specs.Digits.{longer};
-
-pub(crate) fn is_letter(b: u8) -> bool
-    ensures { result ≡ letter b }
-{
-    match b as char {
-        'a'..='z' | 'A'..='Z' => true,
-        _ => false,
-    }
-}
-
-pub(crate) fn is_digit(b: u8) -> bool
-    ensures { result ≡ digit b }
-{
-    match b as char {
-        '0'..='9' => true,
-        _ => false,
-    }
-}
-
-pub(crate) fn is_alphanumeric(b: u8) -> bool
-    ensures { result ≡ alphanumeric b }
-{
-    is_letter(b) || is_digit(b)
-}
 
 pub(crate) fn is_blank(b: u8) -> bool
     ensures { result ≡ blank b }
 {
-    match b as char {
-        ' ' | '\t' | '\r' | '\n' => true,
-        _ => false,
-    }
+    matches!(b, b' ' | b'\t' | b'\r' | b'\n')
 }
 
-// The small letter of a capital; any other byte as it is.
-pub(crate) fn lowered(b: u8) -> u8
-    ensures { result ≡ small b }
+// How many letters and digits stand at the front.
+pub(crate) fn word_length(text: &[u8]) -> usize
+    ensures is { result ≡ run alphanumeric text.now }
+    ensures within { result ≤ length text.now }
 {
-    match b as char {
-        'A'..='Z' => b + 32,
-        _ => b,
-    }
+    text.iter()
+        .take_while(|b| b.is_ascii_alphanumeric())
+        .count()
 }
 
-// What a run of bytes is made of.
-#[derive(Clone, Copy)]
-pub(crate) enum Class {
-    Alphanumeric,
-    Digit,
-}
-
-impl Class {
-    pub(crate) fn has(self, b: u8) -> bool
-        ensures { result ≡ test self b }
-    {
-        match self {
-            Class::Alphanumeric => is_alphanumeric(b),
-            Class::Digit => is_digit(b),
-        }
-    }
-}
-
-// How many bytes of the class stand at the front.
-pub(crate) fn run_length(text: &[u8], class: Class) -> usize
-    ensures { (result ≡ run (test class) text.now) × (result ≤ length text.now) }
+// How many digits stand at the front.
+pub(crate) fn digit_count(text: &[u8]) -> usize
+    ensures is { result ≡ run digit text.now }
+    ensures within { result ≤ length text.now }
 {
-    let mut n = 0;
-    let mut rest = text;
-    while let [b, more @ ..] = rest {
-        if !class.has(*b) {
-            break;
-        }
-        n += 1;
-        rest = more;
-    }
-    n
+    text.iter().take_while(|b| b.is_ascii_digit()).count()
 }
 
 // The largest number that a text may hold.
-const LARGEST: u64 = 2147483647;
+const LARGEST: u32 = 2147483647;
 
 // The number that the digits spell, or nothing where it is too large.
 pub fn decimal(digits: &[u8]) -> Option<i32>
     ensures { result ≡ decimal digits.now }
 {
-    let mut n: u64 = 0;
-    let mut rest = digits;
-    while let [b, more @ ..] = rest {
-        n = with_digit(n, *b)?;
-        rest = more;
-    }
-    Some(n as i32)
+    number(digits, LARGEST).map(|n| n as i32)
 }
 
-// The number with one digit more, where it is not too large.
-fn with_digit(n: u64, b: u8) -> Option<u64>
-    requires { n ≤ 2147483647 }
-    ensures { result ≡ longer n b }
+// The number that the digits spell, or nothing where it is above `most`.
+pub fn number(digits: &[u8], most: u32) -> Option<u32>
+    ensures { result ≡ number_within most digits.now }
 {
-    let n = 10 * n + b.saturating_sub(b'0') as u64;
-    if n > LARGEST {
-        return None;
+    let mut n = 0;
+    for b in digits {
+        n = with_digit(n, *b, most)?;
     }
     Some(n)
+}
+
+// The number with one digit more, or nothing where it is above `most`.
+fn with_digit(n: u32, b: u8, most: u32) -> Option<u32>
+    ensures { result ≡ longer most n b }
+{
+    let n = n
+        .checked_mul(10)?
+        .checked_add(b.saturating_sub(b'0') as u32)?;
+    (n <= most).then_some(n)
 }

@@ -5,7 +5,7 @@ ghost use Rattle.lexer.specs.Lexemes.{meant, number_of, lex_meant, lexeme, skip,
 ghost use Rattle.lexer.specs.Found.{meant_some, others, gap_meant, Closes, Refuses};
 ghost use Rattle.lexer.specs.Limited.{asked};
 
-use crate::bytes::{Class, decimal, is_blank, is_digit, is_letter, run_length};
+use crate::bytes::{decimal, digit_count, is_blank, word_length};
 use crate::cursor::Cursor;
 use crate::token::{Lexeme, Question, Refusal, Token};
 use crate::words::word_token;
@@ -108,7 +108,7 @@ impl<'a> Cursor<'a> {
     fn word(self) -> Lexeme<'a>
         ensures { lex_meant (Ok result) ≡ word_at self.entry.place self.entry.rest.now }
     {
-        let n = run_length(self.rest, Class::Alphanumeric);
+        let n = word_length(self.rest);
         self.lexeme(word_token(&self.rest[..n]), n)
     }
 
@@ -116,10 +116,10 @@ impl<'a> Cursor<'a> {
     fn number(self) -> Result<Lexeme<'a>, Refusal>
         ensures { lex_meant result ≡ number_at self.entry.place self.entry.rest.now }
     {
-        let n = run_length(self.rest, Class::Digit);
+        let n = digit_count(self.rest);
         let (digits, rest) = self.rest.split_at(n);
         match rest {
-            [b, ..] if is_letter(*b) => Err(self.no_token()),
+            [b, ..] if b.is_ascii_alphabetic() => Err(self.no_token()),
             _ => Ok(self.lexeme(Token::Number(digits), n)),
         }
     }
@@ -130,8 +130,8 @@ impl<'a> Cursor<'a> {
     {
         let at = self.skip_gap()?;
         match at.rest {
-            [b, ..] if is_letter(*b) => Ok(at.word()),
-            [b, ..] if is_digit(*b) => at.number(),
+            [b, ..] if b.is_ascii_alphabetic() => Ok(at.word()),
+            [b, ..] if b.is_ascii_digit() => at.number(),
             _ => at.symbol(),
         }
     }

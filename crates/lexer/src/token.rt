@@ -30,10 +30,10 @@ pub struct Lexeme<'a> {
     pub end: Cursor<'a>,
 }
 
-// The questions that a text is asked.
+// The questions that a text is asked, with their numbers.
 #[derive(Clone, Copy, PartialEq, Debug)]
 pub enum Question {
-    TextLength,
+    TextLength = 1,
     Token,
     NameLength,
     NumberSize,
@@ -47,16 +47,7 @@ impl Question {
     pub fn number(self) -> u8
         ensures { result ≡ number_of self }
     {
-        match self {
-            Question::TextLength => 1,
-            Question::Token => 2,
-            Question::NameLength => 3,
-            Question::NumberSize => 4,
-            Question::Grammar => 5,
-            Question::Depth => 6,
-            Question::NameCount => 7,
-            Question::NodeCount => 8,
-        }
+        self as u8
     }
 }
 

@@ -1,34 +1,20 @@
 // Words: which are never names, and which are the same.
-ghost use Rattle.std.specs.Prelude.{◌≡◌};
+ghost use Rattle.std.specs.Prelude.{◌≡◌, find as first};
 ghost use Rattle.lexer.specs.Spelling.{lowered, same};
-ghost use Rattle.lexer.specs.Lexemes.{meant, keyword};
 ghost use Rattle.lexer.specs.Words.{find, reserved};
+ghost use Rattle.lexer.specs.Lexemes.{meant, keyword};
 ghost use Rattle.lexer.specs.Found.{meant_some, others, rows, find_row};
 
-use crate::bytes::lowered;
 use crate::token::Token;
 use grammar::symbols::{Adding, Mark, Multiplying, Operator, Prefix, Start};
 use tosca::operators::SimpleType;
 
 // Whether two words are spelled the same, capitals counting as small letters.
+#[tactic(auto, using(crate::proofs::Reserving::same_from_equal))]
 pub fn same_word(a: &[u8], b: &[u8]) -> bool
     ensures { result ≡ same (lowered a.now) (lowered b.now) }
 {
-    let mut left = a;
-    let mut right = b;
-    loop {
-        match (left, right) {
-            ([], []) => return true,
-            ([x, more @ ..], [y, others @ ..]) => {
-                if lowered(*x) != lowered(*y) {
-                    return false;
-                }
-                left = more;
-                right = others;
-            }
-            _ => return false,
-        }
-    }
+    a.eq_ignore_ascii_case(b)
 }
 
 // A word that is never a name, in small letters, and its token.
@@ -80,20 +66,25 @@ const RESERVED: [ReservedWord; 42] = [
     ReservedWord(b"round", Token::Prefix(Prefix::Round)),
 ];
 
-// The token of the first of the words that is spelled as `word` is.
+// The first of the words that is spelled as `word` is.
+fn first_spelled(word: &[u8], words: &[ReservedWord]) -> Option<ReservedWord>
+    ensures { result ≡ first (λ r. same (lowered word.now) (lowered r.0.now)) words.now }
+{
+    words
+        .iter()
+        .copied()
+        .find(|reserved| same_word(word, reserved.0))
+}
+
+// Its token.
+#[tactic(auto, using(crate::proofs::Reserving::found))]
 fn look_up(word: &[u8], words: &[ReservedWord]) -> Option<Token<'static>>
     ensures { meant_some result ≡ find_row (lowered word.now) (rows words.now) }
 {
-    let mut rest = words;
-    while let [first, more @ ..] = rest {
-        if same_word(word, first.0) {
-            return Some(first.1);
-        }
-        rest = more;
-    }
-    None
+    first_spelled(word, words).map(|reserved| reserved.1)
 }
 
+#[tactic(auto, using(crate::proofs::Reserving::found_reserved))]
 fn reserved_token(word: &[u8]) -> Option<Token<'static>>
     ensures { meant_some result ≡ others (find (lowered word.now) reserved) }
 {
@@ -101,11 +92,9 @@ fn reserved_token(word: &[u8]) -> Option<Token<'static>>
 }
 
 // A word is reserved or a name.
+#[tactic(auto, using(crate::proofs::Reserving::word_or_name))]
 pub(crate) fn word_token<'a>(word: &'a [u8]) -> Token<'a>
     ensures { meant result ≡ keyword word.now }
 {
-    match reserved_token(word) {
-        Some(token) => token,
-        None => Token::Name(word),
-    }
+    reserved_token(word).unwrap_or(Token::Name(word))
 }

@@ -1,6 +1,8 @@
 // Numbers in words: decimal digits, with a minus in front if below 0.
 ghost use Rattle.std.specs.Prelude.{◌≡◌, ◌≤◌, Some};
-ghost use Rattle.numerals.specs.Decimal.{natural_of, longer, below, integer_of};
+ghost use Rattle.numerals.specs.Decimal.{digits, natural_of, below, integer_of};
+
+use lexer::bytes::number;
 
 // How far numbers of 32 bits go.
 const MOST_ABOVE: u32 = 2147483647;
@@ -11,28 +13,16 @@ const MOST_BELOW: u32 = 2147483648;
 pub fn natural(word: &[u8], most: u32) -> Option<u32>
     ensures { result ≡ natural_of most word.now }
 {
-    if word.is_empty() {
+    if word.is_empty() || !all_digits(word) {
         return None;
     }
-    let mut n = 0;
-    for b in word {
-        n = with_digit(n, *b, most)?;
-    }
-    Some(n)
+    number(word, most)
 }
 
-// The number with one digit more, if the byte is a digit and the number stays at most `most`.
-fn with_digit(n: u32, b: u8, most: u32) -> Option<u32>
-    ensures { result ≡ longer most n b }
+fn all_digits(word: &[u8]) -> bool
+    ensures { result ≡ digits word.now }
 {
-    if !b.is_ascii_digit() {
-        return None;
-    }
-    let next = 10 * n as u64 + (b - b'0') as u64;
-    if next > most as u64 {
-        return None;
-    }
-    Some(next as u32)
+    word.iter().all(|b| b.is_ascii_digit())
 }
 
 // The number of 32 bits that the word writes.

@@ -29,7 +29,7 @@ pub fn expr(parser: &mut Parser<'_>, table: &mut [Entry], depth: Depth) -> Resul
         Some(op) => {
             parser.advance()?;
             let right = simple(parser, table, depth)?;
-            Ok(parser.emit(table, Node::Bin(left, op.operator(), right), place))
+            Ok(parser.emit(table, Node::Bin(left, Binary::from(op), right), place))
         }
     }
 }
@@ -46,7 +46,7 @@ fn simple(parser: &mut Parser<'_>, table: &mut [Entry], depth: Depth) -> Result<
         let place = parser.lookahead.place;
         parser.advance()?;
         let right = next_term(parser, table, depth)?;
-        left = parser.emit(table, Node::Bin(left, op.operator(), right), place);
+        left = parser.emit(table, Node::Bin(left, Binary::from(op), right), place);
     }
     Ok(left)
 }
@@ -89,7 +89,7 @@ fn term(parser: &mut Parser<'_>, table: &mut [Entry], depth: Depth) -> Result<u1
         let place = parser.lookahead.place;
         parser.advance()?;
         let right = factor(parser, table, depth)?;
-        left = parser.emit(table, Node::Bin(left, op.operator(), right), place);
+        left = parser.emit(table, Node::Bin(left, Binary::from(op), right), place);
     }
     Ok(left)
 }

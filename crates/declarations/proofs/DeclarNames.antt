@@ -1,11 +1,12 @@
 -- Declared names, which the table has before the automaton lists them.
-use Rattle.std.proofs.Common.{◌≡◌, ℕ, zero, suc, ◌+◌, ◌-◌, ◌*◌, ◌<◌, ◌≤◌, Bool, true, false, leb, List, [], ◌∷◌, ◌++◌, length, get_or, set, Ok, Err, Result, sym, refl, ap, ◌∙◌, subst, arith, length-append, lt-ltb, leb-false, leb-true}
+use Rattle.std.proofs.Common.{◌≡◌, ℕ, zero, suc, ◌+◌, ◌-◌, ◌*◌, ◌<◌, ◌≤◌, Bool, true, false, leb, List, [], ◌∷◌, ◌++◌, length, get_or, set, take, drop, min, Ok, Err, Result, sym, refl, ap, ◌∙◌, subst, arith, length-append, lt-ltb, leb-false, leb-true}
+use Rattle.std.proofs.lemmas.List.{length-take}
 use Rattle.tosca.specs.declared.operators.SimpleType.{SimpleType}
 use Rattle.tosca.specs.declared.operators.SimpleType.TheVariants.{Integer}
 use Rattle.tosca.specs.declared.table.Entry.{Entry}
 use Rattle.tosca.specs.declared.table.Node.{Node}
 use Rattle.tosca.specs.declared.table.Node.TheVariants.{Decl}
-use Rattle.tosca.specs.Table.{entry, blank}
+use Rattle.tosca.specs.Table.{entry}
 use Rattle.grammar.specs.declared.symbols.Mark.{Mark as Symbol}
 use Rattle.grammar.specs.declared.symbols.Mark.TheVariants.{Comma, Colon}
 use Rattle.grammar.specs.Tokens.{Tok, name, mark}
@@ -160,34 +161,61 @@ retype_next y zero (suc k) (suc j) (e ∷ t) z h = ap (λ x. retyped_entry y e �
 retype_next y (suc a) k zero (e ∷ t) z h = absurd (omega (arith, h))
 retype_next y (suc a) k (suc j) (e ∷ t) z h = ap (λ x. e ∷ x) (retype_next y a k j t z (omega (arith, h)))
 
-set_out : (l : List Entry) (i : ℕ) (e : Entry) → length l ≤ i → set l i e ≡ l
-set_out [] i e h = refl
-set_out (x ∷ l) zero e h = absurd (omega (arith, h))
-set_out (x ∷ l) (suc i) e h = ap (λ t. x ∷ t) (set_out l i e (omega (arith, h)))
-
-retyped_zero : (y : SimpleType) (a : ℕ) (T : List Entry) → retyped y a zero T ≡ T
+pub retyped_zero : (y : SimpleType) (a : ℕ) (T : List Entry) → retyped y a zero T ≡ T
 retyped_zero y a [] = refl
 retyped_zero y zero (e ∷ t) = refl
 retyped_zero y (suc a) (e ∷ t) = ap (λ x. e ∷ x) (retyped_zero y a t)
 
-pub retype_starts : (y : SimpleType) (a : ℕ) (T : List Entry) → T ≡ retyped y a (a - a) T
-retype_starts y a T = let z : a - a ≡ 0 = omega arith in sym (ap (λ n. retyped y a n T) z ∙ retyped_zero y a T)
+pub retype_one : (y : SimpleType) (n : ℕ) (S T X : List Entry) (z : Entry) → T ≡ retyped y zero n S → X ≡ set T n (retyped_entry y (get_or T n z)) → X ≡ retyped y zero (n + 1) S
+retype_one y n S T X z e i = i ∙ ap (λ t. set t n (retyped_entry y (get_or t n z))) e ∙ retype_next y zero n n S z (omega arith) ∙ ap (λ m. retyped y zero m S) (omega arith)
 
-pub retype_one : (y : SimpleType) (a n : ℕ) (S T X : List Entry) (z : Entry) → a ≤ n → T ≡ retyped y a (n - a) S → X ≡ set T n (retyped_entry y (get_or T n z)) → X ≡ retyped y a ((n + 1) - a) S
-retype_one y a n S T X z h e i =
-    let k : suc (n - a) ≡ (n + 1) - a = omega (arith, h) in
-    let j : n ≡ a + (n - a) = omega (arith, h) in
-    i ∙ ap (λ t. set t n (retyped_entry y (get_or t n z))) e ∙ retype_next y a (n - a) n S z j ∙ ap (λ m. retyped y a m S) k
+-- past the end of the table the count makes no difference
+retyped_past : (y : SimpleType) (a n m : ℕ) (T : List Entry) → length T ≤ a + n → length T ≤ a + m → retyped y a n T ≡ retyped y a m T
+retyped_past y a n m [] h k = refl
+retyped_past y zero zero zero (e ∷ t) h k = refl
+retyped_past y zero zero (suc m) (e ∷ t) h k = absurd (omega (arith, h))
+retyped_past y zero (suc n) zero (e ∷ t) h k = absurd (omega (arith, k))
+retyped_past y zero (suc n) (suc m) (e ∷ t) h k = ap (λ x. retyped_entry y e ∷ x) (retyped_past y zero n m t (omega (arith, h)) (omega (arith, k)))
+retyped_past y (suc a) n m (e ∷ t) h k = ap (λ x. e ∷ x) (retyped_past y a n m t (omega (arith, h)) (omega (arith, k)))
 
-pub retype_out : (y : SimpleType) (a n : ℕ) (S T X : List Entry) → a ≤ n → T ≡ retyped y a (n - a) S → length T ≤ n → X ≡ T → X ≡ retyped y a ((n + 1) - a) S
-retype_out y a n S T X h e k i = retype_one y a n S T X blank h e (i ∙ sym (set_out T n (retyped_entry y (get_or T n blank)) k))
+-- a part of the table
+retyped_front : (y : SimpleType) (n : ℕ) (T : List Entry) → retyped y zero n (take n T) ++ drop n T ≡ retyped y zero n T
+retyped_front y zero [] = refl
+retyped_front y zero (e ∷ t) = refl
+retyped_front y (suc n) [] = refl
+retyped_front y (suc n) (e ∷ t) = ap (λ x. retyped_entry y e ∷ x) (retyped_front y n t)
 
-pub retype_ends : (y : SimpleType) (a b n : ℕ) (S T : List Entry) → (a ≤ b → n ≤ b) → (b ≤ a → n ≤ a) → b ≤ n → T ≡ retyped y a (n - a) S → T ≡ retyped y a (b - a) S
-retype_ends y a b n S T up none h e = e ∙ ap (λ m. retyped y a m S) (whole (leb a b) refl)
+retyped_part : (y : SimpleType) (a n : ℕ) (T : List Entry) → take a T ++ (retyped y zero n (take n (drop a T)) ++ drop n (drop a T)) ≡ retyped y a n T
+retyped_part y zero n T = retyped_front y n T
+retyped_part y (suc a) zero [] = refl
+retyped_part y (suc a) (suc n) [] = refl
+retyped_part y (suc a) n (e ∷ t) = ap (λ x. e ∷ x) (retyped_part y a n t)
+
+-- the part that is in the table
+retyped_within : (y : SimpleType) (a b f l : ℕ) (T : List Entry) → l ≡ min b (length T) → f ≡ min a l → retyped y f (l - f) T ≡ retyped y a (b - a) T
+retyped_within y a b f l T h k = before (leb l a) refl
   where
-    whole : (c : Bool) → leb a b ≡ c → n - a ≡ b - a
-    whole true x = let k = up (leb-true a b x) in omega (arith, k, h)
-    whole false x = let l = leb-false a b x in let k = none (omega (arith, l)) in omega (arith, k, l)
+    none : (n m : ℕ) → m ≡ 0 → retyped y n m T ≡ T
+    none n m z = ap (λ i. retyped y n i T) z ∙ retyped_zero y n T
+
+    behind : (c : Bool) → leb b a ≡ c → l ≤ a → retyped y a (b - a) T ≡ T
+    behind true x g = none a (b - a) (let z = leb-true b a x in omega arith)
+    behind false x g = let z = leb-false b a x in retyped_past y a (b - a) 0 T (omega (arith, z, g, h)) (omega (arith, z, g, h)) ∙ retyped_zero y a T
+
+    ahead' : (c : Bool) → leb b (length T) ≡ c → a < l → retyped y a (l - a) T ≡ retyped y a (b - a) T
+    ahead' true x g = let z = leb-true b (length T) x in ap (λ i. retyped y a (i - a) T) (omega (arith, h, z))
+    ahead' false x g = let z = leb-false b (length T) x in retyped_past y a (l - a) (b - a) T (omega (arith, h, g, z)) (omega (arith, h, g, z))
+
+    before : (c : Bool) → leb l a ≡ c → retyped y f (l - f) T ≡ retyped y a (b - a) T
+    before true x = let z = leb-true l a x in none f (l - f) (omega (arith, k, z)) ∙ sym (behind (leb b a) refl z)
+    before false x = let z = leb-false l a x in ap (λ i. retyped y i (l - i) T) (omega (arith, k, z)) ∙ ahead' (leb b (length T)) refl (omega (arith, z))
+
+pub retype_ends : (y : SimpleType) (a b f l i : ℕ) (T D : List Entry) → l ≡ min b (length T) → f ≡ min a l → length (take (l - f) (drop f T)) ≤ i → D ≡ retyped y zero i (take (l - f) (drop f T)) → take f T ++ (D ++ drop (l - f) (drop f T)) ≡ retyped y a (b - a) T
+retype_ends y a b f l i T D h k p e =
+    let part = take (l - f) (drop f T) in
+    let n = length-take (l - f) (drop f T) in
+    let m : length part ≤ l - f = omega arith in
+    ap (λ d. take f T ++ (d ++ drop (l - f) (drop f T))) (e ∙ retyped_past y zero i (l - f) part (omega arith) (omega arith)) ∙ retyped_part y f (l - f) T ∙ retyped_within y a b f l T h k
 
 pub retype_laid : (y : SimpleType) (es was : List Entry) (ns : List Named) → retyped y (length es) (length ns) (laid (es ++ drafts Integer ns) was) ≡ laid (es ++ drafts y ns) was
 retype_laid y [] [] [] = refl

@@ -14,11 +14,11 @@ use tosca::table::{Entry, Node};
 fn retype(table: &mut [Entry], first: u16, last: u16, typ: SimpleType)
     ensures { table.new ≡ retyped typ first (last - first) table.old }
 {
-    for number in first..last {
-        let i = number as usize;
-        if i < table.len() {
-            table[i] = Entry::new(Node::Decl(table[i].name, typ), table[i].place);
-        }
+    let last = usize::from(last).min(table.len());
+    let first = usize::from(first).min(last);
+    let declared = &mut table[first..last];
+    for entry in declared.iter_mut() {
+        *entry = Entry::new(Node::Decl(entry.name, typ), entry.place);
     }
 }
 

@@ -29,12 +29,12 @@ pub fn expr(parser: &mut Parser<'_>, table: &mut [Entry], depth: Depth) -> Resul
         Some(op) => {
             parser.advance()?;
             let right = simple(parser, table, depth)?;
-            Ok(parser.emit(table, Node::Bin(left, op.operator(), right), place))
+            Ok(parser.emit(table, Node::Bin(left, Binary::from(op), right), place))
         }
     }
 }
 
-// [-] term {(+ | - | or) term}
+// [-] term {(+ | - | or) term}. The loop is term's: one function for both would take the first operand, the operator and the operand as three functions, and be no plainer.
 #[cycle(bracketed_expr_factor_first_term_negated_next_term_rounded_simple_term)]
 fn simple(parser: &mut Parser<'_>, table: &mut [Entry], depth: Depth) -> Result<u16, Refusal>
     requires { Ready parser.old }
@@ -46,7 +46,7 @@ fn simple(parser: &mut Parser<'_>, table: &mut [Entry], depth: Depth) -> Result<
         let place = parser.lookahead.place;
         parser.advance()?;
         let right = next_term(parser, table, depth)?;
-        left = parser.emit(table, Node::Bin(left, op.operator(), right), place);
+        left = parser.emit(table, Node::Bin(left, Binary::from(op), right), place);
     }
     Ok(left)
 }
@@ -89,7 +89,7 @@ fn term(parser: &mut Parser<'_>, table: &mut [Entry], depth: Depth) -> Result<u1
         let place = parser.lookahead.place;
         parser.advance()?;
         let right = factor(parser, table, depth)?;
-        left = parser.emit(table, Node::Bin(left, op.operator(), right), place);
+        left = parser.emit(table, Node::Bin(left, Binary::from(op), right), place);
     }
     Ok(left)
 }

@@ -35,7 +35,7 @@ pub(crate) fn is_minus(parser: &Parser<'_>) -> bool
     )
 }
 
-// The next token as an operator of one precedence.
+// The next token as an operator of one precedence. Three functions, since a proof is not told, where a loop over the pattern `Token::Operator(Operator::Mul(op))` ends, that the operator is of another kind.
 pub(crate) fn multiplying(parser: &Parser<'_>) -> Option<Multiplying>
     ensures { seen result ≡ as_mul (next parser.now) }
 {

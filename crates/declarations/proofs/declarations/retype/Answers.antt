@@ -1,20 +1,13 @@
-use Rattle.std.proofs.Common.{set, ap, ◌∙◌, arith}
+use Rattle.std.proofs.Common.{set, sym, ap, arith}
 use Rattle.tosca.specs.Table.{blank}
-use Rattle.declarations.proofs.DeclarNames.{retype_starts, retype_one, retype_out, retype_ends}
+use Rattle.declarations.proofs.DeclarNames.{retyped_zero, retype_one, retype_ends}
 use Rattle.declarations.proofs.declarations.retype.Goals as goal
-use Rattle.declarations.proofs.declarations.retype.Goals.{then-i-table, else-i-table}
 
-pub loop-number-init : goal.loop-number-init
-loop-number-init c = (retype_starts c.args.typ c.args.first c.args.table.now, λ h. omega arith)
+pub loop-entry-init : goal.loop-entry-init
+loop-entry-init c = sym (retyped_zero c.args.typ 0 _)
 
-pub loop-number-preserved : goal.loop-number-preserved
-loop-number-preserved c = (
-  elim c.if-i-table.branch [
-    | then-i-table w ↦ retype_one c.args.typ c.args.first c.loop-number.number c.args.table.now c.loop-number.table c.if-i-table.table blank c.loop-number.auto.number c.loop-number.invariant.0 (w.table-is ∙ ap (λ e. set c.loop-number.table c.loop-number.number e) w.new.ensures)
-    | else-i-table w ↦ retype_out c.args.typ c.args.first c.loop-number.number c.args.table.now c.loop-number.table c.if-i-table.table c.loop-number.auto.number c.loop-number.invariant.0 w.if-i-table.false w.table-is
-  ],
-  λ h. omega (arith, h, c.loop-number.auto.number, c.loop-number-test.true),
-)
+pub loop-entry-preserved : goal.loop-entry-preserved
+loop-entry-preserved c = retype_one c.args.typ c.loop-entry.entry-index _ c.loop-entry.declared _ blank c.loop-entry.invariant (ap (λ e. set c.loop-entry.declared c.loop-entry.entry-index e) c.new.ensures)
 
 pub returns : goal.returns
-returns c = retype_ends c.args.typ c.args.first c.args.last c.loop-number.number c.args.table.now c.loop-number.table c.loop-number.auto.number-end c.loop-number.invariant.1 c.loop-number-test.false c.loop-number.invariant.0
+returns c = retype_ends c.args.typ c.args.first c.args.last c.min-first.result c.min-last.result c.loop-entry.entry-index c.args.table.now c.loop-entry.declared (omega arith) (omega arith) c.loop-entry-test.false c.loop-entry.invariant

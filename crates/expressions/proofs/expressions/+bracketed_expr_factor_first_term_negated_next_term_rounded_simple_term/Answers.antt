@@ -36,7 +36,7 @@ term-loop-op-preserved t c =
       ready = l.ready b.less.0 (omega (arith, b.less.1, b.less.2, same, l.count, k.room, a.one));
       fewer = omega (arith, b.less.1, same, k.fewer, a.one);
       room = omega (arith, b.less.2, same, l.count, k.room, a.one, a.count);
-      is = loop_again products c.args.depth.level c.args.depth.within c.in_ok-left.left c.loop-op.left c.in_ok-right.right c.emit-left.result c.factor.new.parser c.loop-op.parser c.advance.new.self c.factor-in-Some.new.parser c.emit-left.new.self c.factor.new.table c.loop-op.table c.factor-in-Some.new.table c.emit-left.new.table c.in-Some.op k (sym c.in-Some.ensures) a b.is (subst (λ o. Listed c.factor-in-Some.new.parser c.factor-in-Some.new.table (Bin c.loop-op.left o c.in_ok-right.right) c.loop-op.parser.lookahead.place c.emit-left.result c.emit-left.new.self c.emit-left.new.table) c.operator.ensures l);
+      is = loop_again products c.args.depth.level c.args.depth.within c.in_ok-left.left c.loop-op.left c.in_ok-right.right c.emit-left.result c.factor.new.parser c.loop-op.parser c.advance.new.self c.factor-in-Some.new.parser c.emit-left.new.self c.factor.new.table c.loop-op.table c.factor-in-Some.new.table c.emit-left.new.table c.in-Some.op k (sym c.in-Some.ensures) a b.is (subst (λ o. Listed c.factor-in-Some.new.parser c.factor-in-Some.new.table (Bin c.loop-op.left o c.in_ok-right.right) c.loop-op.parser.lookahead.place c.emit-left.result c.emit-left.new.self c.emit-left.new.table) c.from.ensures l);
     }
 
 pub term-returns : goal.term-returns
@@ -69,7 +69,7 @@ simple-loop-op-preserved t c =
       ready = l.ready b.less.0 (omega (arith, b.less.1, b.less.2, same, l.count, k.room, a.one));
       fewer = omega (arith, b.less.1, same, k.fewer, a.one);
       room = omega (arith, b.less.2, same, l.count, k.room, a.one, a.count);
-      is = loop_again sums c.args.depth.level c.args.depth.within c.in_ok-left.left c.loop-op.left c.in_ok-right.right c.emit-left.result c.first_term.new.parser c.loop-op.parser c.advance.new.self c.next_term.new.parser c.emit-left.new.self c.first_term.new.table c.loop-op.table c.next_term.new.table c.emit-left.new.table c.in-Some.op k (sym c.in-Some.ensures) a b.is (subst (λ o. Listed c.next_term.new.parser c.next_term.new.table (Bin c.loop-op.left o c.in_ok-right.right) c.loop-op.parser.lookahead.place c.emit-left.result c.emit-left.new.self c.emit-left.new.table) c.operator.ensures l);
+      is = loop_again sums c.args.depth.level c.args.depth.within c.in_ok-left.left c.loop-op.left c.in_ok-right.right c.emit-left.result c.first_term.new.parser c.loop-op.parser c.advance.new.self c.next_term.new.parser c.emit-left.new.self c.first_term.new.table c.loop-op.table c.next_term.new.table c.emit-left.new.table c.in-Some.op k (sym c.in-Some.ensures) a b.is (subst (λ o. Listed c.next_term.new.parser c.next_term.new.table (Bin c.loop-op.left o c.in_ok-right.right) c.loop-op.parser.lookahead.place c.emit-left.result c.emit-left.new.self c.emit-left.new.table) c.from.ensures l);
     }
 
 pub simple-returns : goal.simple-returns
@@ -112,7 +112,7 @@ expr-returns-in_ok-right-in-Some t c =
     let same = ap (λ f. length f.tokens) l.same in
     record {
       less = (l.ready b.less.0 (omega (arith, f.less.0.room, b.less.1, b.less.2, same, l.count, a.one, a.count)), omega (arith, f.less.1, b.less.1, same, a.one), omega (arith, f.less.2, b.less.2, same, l.count, a.one, a.count));
-      is = λ L mk. chain (expr_opens c.args.depth.level c.in_ok-left.left c.args.parser.now c.simple.new.parser c.args.table.now c.simple.new.table c.in_ok-left.ensures.is L mk) (operated relations c.args.depth.level c.args.depth.within c.in_ok-left.left c.simple.new.parser c.simple.new.table c.in-Some.op (sym c.in-Some.ensures) L mk a b.is (subst (λ o. Listed c.simple-in-Some.new.parser c.simple-in-Some.new.table (Bin c.in_ok-left.left o c.in_ok-right-in-Some.right) c.simple.new.parser.lookahead.place c.emit.result c.emit.new.self c.emit.new.table) c.operator.ensures l));
+      is = λ L mk. chain (expr_opens c.args.depth.level c.in_ok-left.left c.args.parser.now c.simple.new.parser c.args.table.now c.simple.new.table c.in_ok-left.ensures.is L mk) (operated relations c.args.depth.level c.args.depth.within c.in_ok-left.left c.simple.new.parser c.simple.new.table c.in-Some.op (sym c.in-Some.ensures) L mk a b.is (subst (λ o. Listed c.simple-in-Some.new.parser c.simple-in-Some.new.table (Bin c.in_ok-left.left o c.in_ok-right-in-Some.right) c.simple.new.parser.lookahead.place c.emit.result c.emit.new.self c.emit.new.table) c.from.ensures l));
     }
 
 pub first_term-returns-in_err-part : goal.first_term-returns-in_err-part

@@ -1,6 +1,6 @@
 -- Declared names, which the table has before the automaton lists them.
 use Rattle.std.proofs.Common.{◌≡◌, ℕ, zero, suc, ◌+◌, ◌-◌, ◌*◌, ◌<◌, ◌≤◌, Bool, true, false, leb, List, [], ◌∷◌, ◌++◌, length, get_or, set, take, drop, min, Ok, Err, Result, sym, refl, ap, ◌∙◌, subst, arith, length-append, lt-ltb, leb-false, leb-true}
-use Rattle.std.proofs.lemmas.List.{length-take}
+use Rattle.std.proofs.lemmas.List.{append-nil, append_assoc, length-take}
 use Rattle.tosca.specs.declared.operators.SimpleType.{SimpleType}
 use Rattle.tosca.specs.declared.operators.SimpleType.TheVariants.{Integer}
 use Rattle.tosca.specs.declared.table.Entry.{Entry}
@@ -22,14 +22,6 @@ use Rattle.parser.specs.Parsing.{Holds, reading, refusal, Stops}
 use Rattle.declarations.specs.Declaring.{Used, Begun, Drafted, Drafts, drafts, retyped, retyped_entry}
 use Rattle.parser.proofs.Chains.{takes, holds_more}
 use Rattle.parser.proofs.CommandSteps.{is_mark_lem, mark_few, not_mark, cuts_off, misses}
-
-append_nil : {A : Type 0} (xs : List A) → xs ++ [] ≡ xs
-append_nil [] = refl
-append_nil (x ∷ xs) = ap (λ t. x ∷ t) (append_nil xs)
-
-append_assoc : {A : Type 0} (xs ys zs : List A) → (xs ++ ys) ++ zs ≡ xs ++ (ys ++ zs)
-append_assoc [] ys zs = refl
-append_assoc (x ∷ xs) ys zs = ap (λ t. x ∷ t) (append_assoc xs ys zs)
 
 drafts_append : (y : SimpleType) (ns ms : List Named) → drafts y (ns ++ ms) ≡ drafts y ns ++ drafts y ms
 drafts_append y [] ms = refl
@@ -53,14 +45,14 @@ no_names {J} {K} {P} {A} {T} t r e k f = record {
   reads = λ ms L m s.
       ap (reading (J ms ∷ L) s) r.token
       ∙ takes (J ms ∷ L) (K ms ∷ L) s s t P.lookahead.place (ahead A) (e ms L s) (shallow (k ms L ∙ m)) f
-      ∙ ap (λ x. reading (K x ∷ L) s (ahead A)) (sym (append_nil ms));
-  holds = λ was es h. subst (λ x. Holds was x A.count T) (sym (append_nil es)) (subst (λ c. Holds was es c T) (sym r.count) h);
+      ∙ ap (λ x. reading (K x ∷ L) s (ahead A)) (sym (append-nil ms));
+  holds = λ was es h. subst (λ x. Holds was x A.count T) (sym (append-nil es)) (subst (λ c. Holds was es c T) (sym r.count) h);
 }
 
 pub nothing_drafted : {J : List Named → Sym} (P : Parser) (T : List Entry) → Drafted J J P T [] P T
 nothing_drafted {J} P T = record {
-  reads = λ ms L m s. ap (λ x. reading (J x ∷ L) s (ahead P)) (sym (append_nil ms));
-  holds = λ was es h. subst (λ x. Holds was x P.count T) (sym (append_nil es)) h;
+  reads = λ ms L m s. ap (λ x. reading (J x ∷ L) s (ahead P)) (sym (append-nil ms));
+  holds = λ was es h. subst (λ x. Holds was x P.count T) (sym (append-nil es)) h;
 }
 
 pub drafted_both : {J K M : List Named → Sym} {P Q R : Parser} {T T₁ T₂ : List Entry} {ns ms : List Named} → Drafted J K P T ns Q T₁ → Drafted K M Q T₁ ms R T₂ → Drafted J M P T (ns ++ ms) R T₂
@@ -236,5 +228,5 @@ retype_holds y P A T T' was es ns h k e =
 
 -- and the automaton lists them
 pub declares_drafts : (y : SimpleType) (ns : List Named) (V : List ℕ) (es : List Entry) → declares list (typed y ns) (listing V es) ≡ listing V (es ++ drafts y ns)
-declares_drafts y [] V es = ap (listing V) (sym (append_nil es))
+declares_drafts y [] V es = ap (listing V) (sym (append-nil es))
 declares_drafts y (n ∷ ns) V es = declares_drafts y ns V (es ++ (entry (Decl n.name y) n.place ∷ [])) ∙ ap (listing V) (append_assoc es (entry (Decl n.name y) n.place ∷ []) (drafts y ns))

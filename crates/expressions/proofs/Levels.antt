@@ -1,29 +1,23 @@
 -- Operands of one precedence: what the loops of term and simple, and expr, do.
-use Rattle.std.proofs.Common.{◌≡◌, ℕ, ◌≤◌, true, cond, List, [], ◌∷◌, Ok, sym, refl, ap, ◌∙◌, subst, arith}
+use Rattle.std.proofs.Common.{◌≡◌, ℕ, ◌≤◌, true, List, [], ◌∷◌, Ok, sym, refl, ap, ◌∙◌, subst}
 use Rattle.tosca.specs.declared.operators.Binary.{Binary}
 use Rattle.tosca.specs.declared.table.Entry.{Entry}
 use Rattle.tosca.specs.declared.table.Node.TheVariants.{Bin}
 use Rattle.grammar.specs.declared.symbols.Multiplying.{Multiplying}
 use Rattle.grammar.specs.declared.symbols.Adding.{Adding}
 use Rattle.grammar.specs.declared.symbols.Relation.{Relation}
-use Rattle.grammar.specs.Tokens.{Tok, name, lit, op, pre, start, else', unused, ty, mark, at, Seen, no, yes, pick, as_mul, as_add, as_rel}
+use Rattle.grammar.specs.Tokens.{Tok, name, lit, op, pre, start, else', unused, ty, mark, Seen, no, yes, pick, as_mul, as_add, as_rel}
 use Rattle.grammar.specs.Building.{Act, a_bin, mul_op, add_op, rel_op}
-use Rattle.grammar.specs.Automaton.{Sym, rels, simple, simples, term, terms, factor, does, marks, step, go, after}
+use Rattle.grammar.specs.Automaton.{Sym, rels, simple, simples, term, terms, factor, does, marks, step, go}
 use Rattle.grammar.specs.Listing.{Listing, list}
-use Rattle.grammar.specs.Limits.{few, limits}
+use Rattle.grammar.specs.Limits.{few}
 use Rattle.lexer.specs.declared.token.Refusal.{Refusal}
 use Rattle.parser.specs.declared.parser.Parser.{Parser}
-use Rattle.lexer.specs.Lexemes.{meant}
-use Rattle.lexer.specs.Scan.{is_stop, over, limited, scan}
-use Rattle.lexer.specs.Names.{learns}
-use Rattle.parser.specs.Feeds.{Feed, feed, known_of, ahead, next}
+use Rattle.parser.specs.Feeds.{ahead, next}
 use Rattle.parser.specs.Advancing.{Read, Broken, Listed}
-use Rattle.parser.specs.Parsing.{reading, Goes, Stops, Parsed}
-use Rattle.parser.proofs.Chains.{chain, chain_stop, above, above_stop, moves, from_feed, from_count, stop_feed, reads, breaks, lists}
-
--- the next token is read
-pub read_token : {J K : List Sym} {U : List ℕ} {T : List Entry} {p q : Parser} {t : Tok} → Read p t q → ((s : Listing) → step list J s t p.lookahead.place ≡ go K s) → marks K ≤ 32 → few t ≡ true → Goes J U p.count T (ahead p) K U q.count T (ahead q)
-read_token r e m k = from_feed r.token (from_count (sym r.count) (reads e m k))
+use Rattle.parser.specs.Parsing.{Goes, Stops, Parsed}
+use Rattle.parser.proofs.CommandSteps.{reads_on, turns}
+use Rattle.parser.proofs.Chains.{chain, chain_stop, above, above_stop, stop_feed, reads, breaks, lists}
 
 -- the next token is read, and what follows it is refused
 pub read_broken : {J K : List Sym} {U : List ℕ} {T : List Entry} {t : Tok} {r : Refusal} (p : Parser) → Broken p t r → ((s : Listing) → step list J s t p.lookahead.place ≡ go K s) → marks K ≤ 32 → few t ≡ true → Stops J U p.count T (ahead p) r
@@ -38,7 +32,7 @@ pub record Level (X Y : Sym) (O : Type 0) (view : Tok → Seen O) (means : O →
   pub rest : (L : List Sym) (a : Act) → marks (does a ∷ then L) ≡ marks L
 
 mul_few : (t : Tok) (o : Multiplying) → as_mul t ≡ yes o → few t ≡ true
-mul_few (name n) o e = absurd (let z : ◌≡◌ {A = ℕ} 0 1 = cc in omega arith)
+mul_few (name n) o e = absurd (cc)
 mul_few (lit x) o e = refl
 mul_few (op x) o e = refl
 mul_few (pre x) o e = refl
@@ -49,7 +43,7 @@ mul_few (ty x) o e = refl
 mul_few (mark x) o e = refl
 
 add_few : (t : Tok) (o : Adding) → as_add t ≡ yes o → few t ≡ true
-add_few (name n) o e = absurd (let z : ◌≡◌ {A = ℕ} 0 1 = cc in omega arith)
+add_few (name n) o e = absurd (cc)
 add_few (lit x) o e = refl
 add_few (op x) o e = refl
 add_few (pre x) o e = refl
@@ -60,7 +54,7 @@ add_few (ty x) o e = refl
 add_few (mark x) o e = refl
 
 rel_few : (t : Tok) (o : Relation) → as_rel t ≡ yes o → few t ≡ true
-rel_few (name n) o e = absurd (let z : ◌≡◌ {A = ℕ} 0 1 = cc in omega arith)
+rel_few (name n) o e = absurd (cc)
 rel_few (lit x) o e = refl
 rel_few (op x) o e = refl
 rel_few (pre x) o e = refl
@@ -97,14 +91,6 @@ relations = record {
   rest = λ L a. refl;
 }
 
--- the feed after the next token, whatever that is
-abbrev pub behind : Parser → Feed
-behind p = feed (learns (known_of p.names) (meant p.lookahead.token)) (cond (is_stop (meant p.lookahead.token)) over (limited (scan p.lookahead.end.place p.lookahead.end.rest.now)))
-
--- two stacks that do the same at the next token
-pub alike : {J K : List Sym} {U : List ℕ} {c : ℕ} {T : List Entry} (p : Parser) → ((s : Listing) → step list J s (next p) p.lookahead.place ≡ step list K s (next p) p.lookahead.place) → Goes J U c T (ahead p) K U c T (ahead p)
-alike p e = moves (λ s. ap (λ m. after list (limits (behind p).ending) (at (next p) p.lookahead.place) (behind p).tokens m (λ K' s'. reading K' s' (behind p))) (e s))
-
 module _ {X Y : Sym} {O : Type 0} {view : Tok → Seen O} {means : O → Binary} {then : List Sym → List Sym} (v : Level X Y O view means then) where
   module _ (d : ℕ) (le : d ≤ 32) (a : ℕ) (p : Parser) (T : List Entry) (o : O) (seen : view (next p) ≡ yes o) (L : List Sym) (mk : marks L ≡ d) where
     abbrev act : Act
@@ -117,7 +103,7 @@ module _ {X Y : Sym} {O : Type 0} {view : Tok → Seen O} {means : O → Binary}
     pub operated : {b r : ℕ} {q e z : Parser} {T' T'' : List Entry} → Read p (next p) q → Parsed Y d q T e T' (Ok b) → Listed e T' (Bin a (means o) b) p.lookahead.place r z T'' →
         Goes (X ∷ L) (a ∷ []) p.count T (ahead p) (then L) (r ∷ []) z.count T'' (ahead z)
     operated rd f l =
-        chain (read_token rd (λ s. v.enters L s (next p) p.lookahead.place o seen) low (v.small (next p) o seen))
+        chain (reads_on rd (λ s. v.enters L s (next p) p.lookahead.place o seen) low (v.small (next p) o seen))
         (chain (above (a ∷ []) (f (does act ∷ then L) (v.rest L act ∙ mk)))
         (lists act (λ V es. refl) l))
 
@@ -128,9 +114,9 @@ module _ {X Y : Sym} {O : Type 0} {view : Tok → Seen O} {means : O → Binary}
     -- the right operand is refused
     pub operand_refused : {r : Refusal} {q : Parser} → Read p (next p) q → ((J : List Sym) → marks J ≡ d → Stops (Y ∷ J) [] q.count T (ahead q) r) → Stops (X ∷ L) (a ∷ []) p.count T (ahead p) r
     operand_refused rd f =
-        chain_stop (read_token rd (λ s. v.enters L s (next p) p.lookahead.place o seen) low (v.small (next p) o seen))
+        chain_stop (reads_on rd (λ s. v.enters L s (next p) p.lookahead.place o seen) low (v.small (next p) o seen))
         (above_stop (a ∷ []) (f (does act ∷ then L) (v.rest L act ∙ mk)))
 
   -- no operator follows
   pub passed : {U : List ℕ} {c : ℕ} {T : List Entry} (p : Parser) (L : List Sym) → view (next p) ≡ no → Goes (X ∷ L) U c T (ahead p) L U c T (ahead p)
-  passed p L unseen = alike p (λ s. v.passes L s (next p) p.lookahead.place unseen)
+  passed p L unseen = turns p (λ s. v.passes L s (next p) p.lookahead.place unseen)

@@ -17,7 +17,6 @@ use Rattle.grammar.specs.Building.{Act, a_bin, a_uny, a_const, a_var}
 use Rattle.grammar.specs.Automaton.{Sym, expr, rels, simple, simples, term, terms, factor, does, leave, is, is_open, marks, step, go, stuck}
 use Rattle.grammar.specs.Listing.{Listing, list}
 use Rattle.grammar.specs.Limits.{few}
-use Rattle.lexer.specs.declared.token.Question.TheVariants.{Depth}
 use Rattle.lexer.specs.declared.token.Refusal.{Refusal}
 use Rattle.lexer.specs.Lexemes.{meant, other}
 use Rattle.lexer.specs.Names.{tok}
@@ -26,25 +25,26 @@ use Rattle.parser.specs.Feeds.{Feed, more, known_of, ahead, next, Ready}
 use Rattle.parser.specs.Advancing.{Read, Broken, Listed, Missed, another, cut, Closed, Nameless, many, refuses, is_mark, is_name, is_minus}
 use Rattle.parser.specs.Advancing as adv
 use Rattle.parser.specs.Parsing.{Goes, Stops, Takes, Parsed}
-use Rattle.parser.proofs.Chains.{chain, chain_stop, above, above_stop, moves, from_feed, from_count, stop_feed, takes, stucks, too_deep, too_many, breaks, leaves, lists, doing}
+use Rattle.parser.proofs.Chains.{chain, chain_stop, above, above_stop, moves, from_feed, from_count, stop_feed, takes, stucks, too_many, breaks, leaves, lists, doing}
 use Rattle.parser.proofs.Loops.{Looped}
-use Rattle.expressions.proofs.Levels.{Level, read_token, read_broken, behind, alike, operated, operator_broken, operand_refused, passed, relations}
+use Rattle.parser.proofs.CommandSteps.{reads_on, turns}
+use Rattle.expressions.proofs.Levels.{Level, read_broken, operated, operator_broken, operand_refused, passed, relations}
 
 -- from the symbol S to the rest X of its operands, one of which is listed
 abbrev pub Opens : Sym → Sym → ℕ → Parser → List Entry → ℕ → Parser → List Entry → Type 0
 Opens S X d p T a q T' = (L : List Sym) → marks L ≡ d → Goes (S ∷ L) [] p.count T (ahead p) (X ∷ L) (a ∷ []) q.count T' (ahead q)
 
 pub term_opens : (d a : ℕ) (p q : Parser) (T T' : List Entry) → Parsed factor d p T q T' (Ok a) → Opens term terms d p T a q T'
-term_opens d a p q T T' f = λ L mk. chain (alike p (λ s. refl)) (f (terms ∷ L) mk)
+term_opens d a p q T T' f = λ L mk. chain (turns p (λ s. refl)) (f (terms ∷ L) mk)
 
 pub expr_opens : (d a : ℕ) (p q : Parser) (T T' : List Entry) → Parsed simple d p T q T' (Ok a) → Opens expr rels d p T a q T'
-expr_opens d a p q T T' f = λ L mk. chain (alike p (λ s. refl)) (f (rels ∷ L) mk)
+expr_opens d a p q T T' f = λ L mk. chain (turns p (λ s. refl)) (f (rels ∷ L) mk)
 
 pub term_refused : (d : ℕ) (p q : Parser) (T T' : List Entry) (e : Refusal) → Parsed factor d p T q T' (Err e) → Parsed term d p T q T' (Err e)
-term_refused d p q T T' e f = λ L mk. chain_stop (alike p (λ s. refl)) (f (terms ∷ L) mk)
+term_refused d p q T T' e f = λ L mk. chain_stop (turns p (λ s. refl)) (f (terms ∷ L) mk)
 
 pub expr_refused : (d : ℕ) (p q : Parser) (T T' : List Entry) (e : Refusal) → Parsed simple d p T q T' (Err e) → Parsed expr d p T q T' (Err e)
-expr_refused d p q T T' e f = λ L mk. chain_stop (alike p (λ s. refl)) (f (rels ∷ L) mk)
+expr_refused d p q T T' e f = λ L mk. chain_stop (turns p (λ s. refl)) (f (rels ∷ L) mk)
 
 -- the loop of a level begins
 pub begun : (X : Sym) (d a : ℕ) (p : Parser) (T : List Entry) → Ready p → Looped X d a p T a p T
@@ -71,35 +71,32 @@ expr_alone d a p q T T' f unseen = λ L mk. chain (expr_opens d a p q T T' f L m
 -- a leading minus
 minus_next : (t : Tok) → is_minus t ≡ true → t ≡ op (Add Minus)
 minus_next (op (Add Minus)) e = refl
-minus_next (op (Add Plus)) e = absurd (let z : ◌≡◌ {A = ℕ} 0 1 = cc in omega arith)
-minus_next (op (Add Or)) e = absurd (let z : ◌≡◌ {A = ℕ} 0 1 = cc in omega arith)
-minus_next (op (Mul x)) e = absurd (let z : ◌≡◌ {A = ℕ} 0 1 = cc in omega arith)
-minus_next (op (Rel x)) e = absurd (let z : ◌≡◌ {A = ℕ} 0 1 = cc in omega arith)
-minus_next (name x) e = absurd (let z : ◌≡◌ {A = ℕ} 0 1 = cc in omega arith)
-minus_next (lit x) e = absurd (let z : ◌≡◌ {A = ℕ} 0 1 = cc in omega arith)
-minus_next (pre x) e = absurd (let z : ◌≡◌ {A = ℕ} 0 1 = cc in omega arith)
-minus_next (start x) e = absurd (let z : ◌≡◌ {A = ℕ} 0 1 = cc in omega arith)
-minus_next (ty x) e = absurd (let z : ◌≡◌ {A = ℕ} 0 1 = cc in omega arith)
-minus_next (mark x) e = absurd (let z : ◌≡◌ {A = ℕ} 0 1 = cc in omega arith)
-minus_next else' e = absurd (let z : ◌≡◌ {A = ℕ} 0 1 = cc in omega arith)
-minus_next unused e = absurd (let z : ◌≡◌ {A = ℕ} 0 1 = cc in omega arith)
+minus_next (op (Add Plus)) e = absurd (cc)
+minus_next (op (Add Or)) e = absurd (cc)
+minus_next (op (Mul x)) e = absurd (cc)
+minus_next (op (Rel x)) e = absurd (cc)
+minus_next (name x) e = absurd (cc)
+minus_next (lit x) e = absurd (cc)
+minus_next (pre x) e = absurd (cc)
+minus_next (start x) e = absurd (cc)
+minus_next (ty x) e = absurd (cc)
+minus_next (mark x) e = absurd (cc)
+minus_next else' e = absurd (cc)
+minus_next unused e = absurd (cc)
 
 pub minus_ok : (d n r : ℕ) → d ≤ 32 → (p q e z : Parser) (T T' T'' : List Entry) → is_minus (next p) ≡ true → Read p (next p) q → Parsed term d q T e T' (Ok n) → Listed e T' (Uny unary.Negate n) p.lookahead.place r z T'' → Takes (λ L. simple ∷ L) (λ L. simples ∷ L) d p T z T'' (Ok r)
 minus_ok d n r le p q e z T T' T'' m rd f l = λ L mk.
-    chain (read_token (subst (λ t. Read p t q) (minus_next (next p) m) rd) (λ s. refl) (subst (λ k. k ≤ 32) (sym mk) le) refl)
+    chain (reads_on (subst (λ t. Read p t q) (minus_next (next p) m) rd) (λ s. refl) (subst (λ k. k ≤ 32) (sym mk) le) refl)
     (chain (f (does (a_uny p.lookahead.place unary.Negate) ∷ simples ∷ L) mk) (lists (a_uny p.lookahead.place unary.Negate) (λ V es. refl) l))
-
-pub minus_broken : (d : ℕ) → d ≤ 32 → (p z : Parser) (T T'' : List Entry) (r : Refusal) → is_minus (next p) ≡ true → Broken p (next p) r → Takes (λ L. simple ∷ L) (λ L. simples ∷ L) d p T z T'' (Err r)
-minus_broken d le p z T T'' r m b = λ L mk. read_broken {K = term ∷ does (a_uny p.lookahead.place unary.Negate) ∷ simples ∷ L} p (subst (λ t. Broken p t r) (minus_next (next p) m) b) (λ s. refl) (subst (λ k. k ≤ 32) (sym mk) le) refl
 
 pub minus_refused : (d : ℕ) → d ≤ 32 → (p q z : Parser) (T T'' : List Entry) (r : Refusal) → is_minus (next p) ≡ true → Read p (next p) q → Parsed term d q T z T'' (Err r) → Takes (λ L. simple ∷ L) (λ L. simples ∷ L) d p T z T'' (Err r)
 minus_refused d le p q z T T'' r m rd f = λ L mk.
-    chain_stop (read_token (subst (λ t. Read p t q) (minus_next (next p) m) rd) (λ s. refl) (subst (λ k. k ≤ 32) (sym mk) le) refl)
+    chain_stop (reads_on (subst (λ t. Read p t q) (minus_next (next p) m) rd) (λ s. refl) (subst (λ k. k ≤ 32) (sym mk) le) refl)
     (f (does (a_uny p.lookahead.place unary.Negate) ∷ simples ∷ L) mk)
 
 -- without a minus, a simple expression begins with a term
 no_minus : (t : Tok) → is_minus t ≡ false → (L : List Sym) (s : Listing) (p : ℕ) → step list (simple ∷ L) s t p ≡ step list (term ∷ simples ∷ L) s t p
-no_minus (op (Add Minus)) h L s p = absurd (let z : ◌≡◌ {A = ℕ} 0 1 = cc in omega arith)
+no_minus (op (Add Minus)) h L s p = absurd (cc)
 no_minus (op (Add Plus)) h L s p = refl
 no_minus (op (Add Or)) h L s p = refl
 no_minus (op (Mul x)) h L s p = refl
@@ -114,10 +111,10 @@ no_minus else' h L s p = refl
 no_minus unused h L s p = refl
 
 no_minus_ok : (d n : ℕ) (p z : Parser) (T T'' : List Entry) → is_minus (next p) ≡ false → Parsed term d p T z T'' (Ok n) → Takes (λ L. simple ∷ L) (λ L. simples ∷ L) d p T z T'' (Ok n)
-no_minus_ok d n p z T T'' h f = λ L mk. chain (alike p (λ s. no_minus (next p) h L s p.lookahead.place)) (f (simples ∷ L) mk)
+no_minus_ok d n p z T T'' h f = λ L mk. chain (turns p (λ s. no_minus (next p) h L s p.lookahead.place)) (f (simples ∷ L) mk)
 
 no_minus_refused : (d : ℕ) (p z : Parser) (T T'' : List Entry) (r : Refusal) → is_minus (next p) ≡ false → Parsed term d p T z T'' (Err r) → Takes (λ L. simple ∷ L) (λ L. simples ∷ L) d p T z T'' (Err r)
-no_minus_refused d p z T T'' r h f = λ L mk. chain_stop (alike p (λ s. no_minus (next p) h L s p.lookahead.place)) (f (simples ∷ L) mk)
+no_minus_refused d p z T T'' r h f = λ L mk. chain_stop (turns p (λ s. no_minus (next p) h L s p.lookahead.place)) (f (simples ∷ L) mk)
 
 -- the next token, where it is known as it is written
 pub next_is : (p : Parser) (t : Tok) → meant p.lookahead.token ≡ other t → next p ≡ t
@@ -142,15 +139,7 @@ missed m p e L le st (cut b) = read_broken p b st le refl
 -- an opened factor: after the opener the stack K is expected, one deeper
 module _ (x : Prefix) (K : ℕ → List Sym → List Sym) (st : (L : List Sym) (s : Listing) (p : ℕ) → step list (factor ∷ L) s (pre x) p ≡ go (K p L) s) (deep : (L : List Sym) (p : ℕ) → marks (K p L) ≡ suc (marks L)) (d : ℕ) (p : Parser) (h : meant p.lookahead.token ≡ other (pre x)) where
   pub opener : {q : Parser} {T : List Entry} → d < 32 → Read p (next p) q → (L : List Sym) → marks L ≡ d → Goes (factor ∷ L) [] p.count T (ahead p) (K p.lookahead.place L) [] q.count T (ahead q)
-  opener {q} lt rd L mk = read_token (subst (λ t. Read p t q) (next_is p (pre x) h) rd) (λ s. st L s p.lookahead.place) (omega (arith, deep L p.lookahead.place, mk)) refl
-
-  pub opener_deep : (z : Parser) (T T' : List Entry) (e : Refusal) → 32 ≤ d → e ≡ refuses Depth p.lookahead.place → Parsed factor d p T z T' (Err e)
-  opener_deep z T T' e le q = λ L mk.
-      subst (λ r. Stops (factor ∷ L) [] p.count T (ahead p) r) (sym q)
-      (stop_feed (ap (λ t. more (at t p.lookahead.place) (behind p)) (next_is p (pre x) h)) (too_deep (K p.lookahead.place L) (λ s. st L s p.lookahead.place) (omega (arith, deep L p.lookahead.place, mk))))
-
-  pub opener_broken : (z : Parser) (T T' : List Entry) (e : Refusal) → d < 32 → Broken p (next p) e → Parsed factor d p T z T' (Err e)
-  opener_broken z T T' e lt b = λ L mk. read_broken {K = K p.lookahead.place L} p (subst (λ t. Broken p t e) (next_is p (pre x) h) b) (λ s. st L s p.lookahead.place) (omega (arith, deep L p.lookahead.place, mk)) refl
+  opener {q} lt rd L mk = reads_on (subst (λ t. Read p t q) (next_is p (pre x) h) rd) (λ s. st L s p.lookahead.place) (omega (arith, deep L p.lookahead.place, mk)) refl
 
 -- what the three openers expect
 abbrev pub in_bracket : ℕ → List Sym → List Sym
@@ -177,7 +166,7 @@ module _ (d i : ℕ) (p q : Parser) (T : List Entry) (deeper : i ≡ d + 1) (lt 
     bracket_missed n y z T' e f m = λ L mk. chain_stop (bracket_opens L mk) (chain_stop (f (is Close ∷ leave ∷ L) (inner d i L deeper mk)) (missed Close y e (leave ∷ L) (omega (arith, mk)) (λ s. refl) m))
 
     pub bracket_ok : (n : ℕ) (y z : Parser) (T' : List Entry) → Parsed expr i q T y T' (Ok n) → Read y (mark Close) z → Parsed factor d p T z T' (Ok n)
-    bracket_ok n y z T' f c = λ L mk. chain (bracket_opens L mk) (chain (f (is Close ∷ leave ∷ L) (inner d i L deeper mk)) (chain (read_token c (λ s. refl) (omega (arith, mk)) refl) leaves))
+    bracket_ok n y z T' f c = λ L mk. chain (bracket_opens L mk) (chain (f (is Close ∷ leave ∷ L) (inner d i L deeper mk)) (chain (reads_on c (λ s. refl) (omega (arith, mk)) refl) leaves))
 
   module _ (h : meant p.lookahead.token ≡ other (pre Not)) where
     not_opens : (L : List Sym) → marks L ≡ d → Goes (factor ∷ L) [] p.count T (ahead p) (in_not p.lookahead.place L) [] q.count T (ahead q)
@@ -188,24 +177,6 @@ module _ (d i : ℕ) (p q : Parser) (T : List Entry) (deeper : i ≡ d + 1) (lt 
 
     pub not_ok : (n r : ℕ) (y z : Parser) (T' T'' : List Entry) → Parsed factor i q T y T' (Ok n) → Listed y T' (Uny unary.Not n) p.lookahead.place r z T'' → Parsed factor d p T z T'' (Ok r)
     not_ok n r y z T' T'' f l = λ L mk. chain (not_opens L mk) (chain (f (does (a_uny p.lookahead.place unary.Not) ∷ leave ∷ L) (inner d i L deeper mk)) (chain (lists (a_uny p.lookahead.place unary.Not) (λ V es. refl) l) leaves))
-
--- an opening bracket that is expected
-pub open_missed : (t : Tok) → adv.is_open t ≡ false → (L : List Sym) (s : Listing) (p : ℕ) → step list (is_open ∷ L) s t p ≡ stuck
-open_missed (pre Open) h L s p = absurd (let z : ◌≡◌ {A = ℕ} 0 1 = cc in omega arith)
-open_missed (pre Not) h L s p = refl
-open_missed (pre Round) h L s p = refl
-open_missed (mark x) h L s p = refl
-open_missed (op x) h L s p = refl
-open_missed (name x) h L s p = refl
-open_missed (lit x) h L s p = refl
-open_missed (start x) h L s p = refl
-open_missed (ty x) h L s p = refl
-open_missed else' h L s p = refl
-open_missed unused h L s p = refl
-
-pub unopened : {U : List ℕ} {T : List Entry} (p : Parser) (e : Refusal) (L : List Sym) → marks L ≤ 32 → Closed p e → Stops (is_open ∷ L) U p.count T (ahead p) e
-unopened {U} {T} p e L le (adv.Closed.another h q) = subst (λ r. Stops (is_open ∷ L) U p.count T (ahead p) r) (sym q) (stucks (λ s. open_missed (next p) h L s p.lookahead.place))
-unopened p e L le (adv.Closed.cut b) = read_broken p b (λ s. refl) le refl
 
 -- round ( factor / factor )
 module _ (d i : ℕ) (p q : Parser) (T : List Entry) (deeper : i ≡ d + 1) (lt : d < 32) (rd : Read p (next p) q) (h : meant p.lookahead.token ≡ other (pre Round)) where
@@ -221,12 +192,9 @@ module _ (d i : ℕ) (p q : Parser) (T : List Entry) (deeper : i ≡ d + 1) (lt 
   round_opens : (L : List Sym) → marks L ≡ d → Goes (factor ∷ L) [] p.count T (ahead p) (is_open ∷ factor ∷ rest2 L) [] q.count T (ahead q)
   round_opens = opener Round in_round (λ L s n. refl) (λ L n. refl) d p h lt rd
 
-  pub round_unopened : (z : Parser) (T' : List Entry) (e : Refusal) → Closed q e → Parsed factor d p T z T' (Err e)
-  round_unopened z T' e c = λ L mk. chain_stop (round_opens L mk) (unopened q e (factor ∷ rest2 L) (omega (arith, mk)) c)
-
   module _ (o : Parser) (opened : Read q (pre Open) o) where
     round_left : (L : List Sym) → marks L ≡ d → Goes (factor ∷ L) [] p.count T (ahead p) (factor ∷ rest2 L) [] o.count T (ahead o)
-    round_left L mk = chain (round_opens L mk) (read_token opened (λ s. refl) (omega (arith, mk)) refl)
+    round_left L mk = chain (round_opens L mk) (reads_on opened (λ s. refl) (omega (arith, mk)) refl)
 
     pub left_refused : (z : Parser) (T' : List Entry) (e : Refusal) → Parsed factor i o T z T' (Err e) → Parsed factor d p T z T' (Err e)
     left_refused z T' e f = λ L mk. chain_stop (round_left L mk) (f (rest2 L) (inner d i L deeper mk))
@@ -240,7 +208,7 @@ module _ (d i : ℕ) (p q : Parser) (T : List Entry) (deeper : i ≡ d + 1) (lt 
 
       module _ (w : Parser) (slash : Read y (mark Slash) w) where
         round_right : (L : List Sym) → marks L ≡ d → Goes (factor ∷ L) [] p.count T (ahead p) (factor ∷ rest3 L) (a ∷ []) w.count T1 (ahead w)
-        round_right L mk = chain (round_slash L mk) (read_token slash (λ s. refl) (omega (arith, mk)) refl)
+        round_right L mk = chain (round_slash L mk) (reads_on slash (λ s. refl) (omega (arith, mk)) refl)
 
         pub right_refused : (z : Parser) (T' : List Entry) (e : Refusal) → Parsed factor i w T1 z T' (Err e) → Parsed factor d p T z T' (Err e)
         right_refused z T' e g = λ L mk. chain_stop (round_right L mk) (above_stop (a ∷ []) (g (rest3 L) (inner d i L deeper mk)))
@@ -253,7 +221,7 @@ module _ (d i : ℕ) (p q : Parser) (T : List Entry) (deeper : i ≡ d + 1) (lt 
           close_missed z T' e m = λ L mk. chain_stop (round_close L mk) (missed Close x e (rest4 L) (omega (arith, mk)) (λ s. refl) m)
 
           pub round_ok : (r : ℕ) (c z : Parser) (T' : List Entry) → Read x (mark Close) c → Listed c T2 (Bin a binary.Round b) p.lookahead.place r z T' → Parsed factor d p T z T' (Ok r)
-          round_ok r c z T' closed l = λ L mk. chain (round_close L mk) (chain (read_token closed (λ s. refl) (omega (arith, mk)) refl) (chain (lists (a_bin p.lookahead.place binary.Round) (λ V es. refl) l) leaves))
+          round_ok r c z T' closed l = λ L mk. chain (round_close L mk) (chain (reads_on closed (λ s. refl) (omega (arith, mk)) refl) (chain (lists (a_bin p.lookahead.place binary.Round) (λ V es. refl) l) leaves))
 
 -- either way, without a minus
 pub no_minus_either : (d : ℕ) (p z : Parser) (T T'' : List Entry) (r : Result ℕ Refusal) → is_minus (next p) ≡ false → Parsed term d p T z T'' r → Takes (λ L. simple ∷ L) (λ L. simples ∷ L) d p T z T'' r

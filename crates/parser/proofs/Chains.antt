@@ -43,9 +43,6 @@ from_count {J} {K} {U} {W} {d} {T} {T'} {f} {g} e a = subst (λ x. Goes J U x T 
 pub stop_feed : {J : List Sym} {U : List ℕ} {c : ℕ} {T : List Entry} {f f' : Feed} {r : Refusal} → f ≡ f' → Stops J U c T f' r → Stops J U c T f r
 stop_feed {J} {U} {c} {T} {r} e a = subst (λ x. Stops J U c T x r) (sym e) a
 
-pub stop_count : {J : List Sym} {U : List ℕ} {c c' : ℕ} {T : List Entry} {f : Feed} {r : Refusal} → c' ≡ c → Stops J U c T f r → Stops J U c' T f r
-stop_count {J} {U} {T} {f} {r} e a = subst (λ x. Stops J U x T f r) (sym e) a
-
 -- a token that is read, within the limits
 pub takes : (J K : List Sym) (s s' : Listing) (t : Tok) (p : ℕ) (g : Feed) → step list J s t p ≡ go K s' → marks K ≤ 32 → few t ≡ true → reading J s (more (at t p) g) ≡ reading K s' g
 takes J K s s' t p g e m k =

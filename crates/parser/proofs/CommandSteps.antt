@@ -109,25 +109,25 @@ reads_as p q t e r = subst (λ x. Read p x q) (ap (tok (known_of p.names)) e) r
 
 pub is_else_lem : (t : Tok) → is_else t ≡ true → t ≡ else'
 is_else_lem else' h = refl
-is_else_lem (name x) h = absurd (let z : ◌≡◌ {A = ℕ} 0 1 = cc in omega arith)
-is_else_lem (lit x) h = absurd (let z : ◌≡◌ {A = ℕ} 0 1 = cc in omega arith)
-is_else_lem (op x) h = absurd (let z : ◌≡◌ {A = ℕ} 0 1 = cc in omega arith)
-is_else_lem (pre x) h = absurd (let z : ◌≡◌ {A = ℕ} 0 1 = cc in omega arith)
-is_else_lem (start x) h = absurd (let z : ◌≡◌ {A = ℕ} 0 1 = cc in omega arith)
-is_else_lem unused h = absurd (let z : ◌≡◌ {A = ℕ} 0 1 = cc in omega arith)
-is_else_lem (ty x) h = absurd (let z : ◌≡◌ {A = ℕ} 0 1 = cc in omega arith)
-is_else_lem (mark x) h = absurd (let z : ◌≡◌ {A = ℕ} 0 1 = cc in omega arith)
+is_else_lem (name x) h = absurd (cc)
+is_else_lem (lit x) h = absurd (cc)
+is_else_lem (op x) h = absurd (cc)
+is_else_lem (pre x) h = absurd (cc)
+is_else_lem (start x) h = absurd (cc)
+is_else_lem unused h = absurd (cc)
+is_else_lem (ty x) h = absurd (cc)
+is_else_lem (mark x) h = absurd (cc)
 
 pub plain_else : (k : Known) (t : Token) → is_else (tok k (meant t)) ≡ true → plain (meant t) ≡ true
 plain_else k Else h = refl
-plain_else k (Name w) h = absurd (let z : ◌≡◌ {A = ℕ} 0 1 = cc in omega arith)
+plain_else k (Name w) h = absurd (cc)
 plain_else k (Number w) h = refl
 plain_else k (Truth b) h = refl
 plain_else k (Operator o) h = refl
 plain_else k (Prefix x) h = refl
 plain_else k (Start x) h = refl
 plain_else k (TypeName y) h = refl
-plain_else k (Mark x) h = absurd (let z : ◌≡◌ {A = ℕ} 0 1 = cc in omega arith)
+plain_else k (Mark x) h = absurd (cc)
 plain_else k Unused h = refl
 
 pub no_name : (k : Known) (t : Token) → ((w : Bor (List ℕ)) → t ≡ Name w → ⊥) → is_name (tok k (meant t)) ≡ false

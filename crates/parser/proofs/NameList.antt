@@ -6,7 +6,7 @@ use Rattle.std.proofs.lemmas.Option.{slice_get-get_or, slice_get_past}
 use Rattle.std.proofs.lemmas.Grind.{common_steps}
 use Rattle.std.proofs.lemmas.List.Sums.{prefix_len-le-length}
 use Rattle.std.proofs.lemmas.List.Recursion.{is_position_or_len}
-use Rattle.std.proofs.lemmas.List.{get_or-take, length-take-le, take_more_set}
+use Rattle.std.proofs.lemmas.List.{length-take-le, take_more_set}
 use Rattle.lexer.specs.Spelling.{lowered}
 use Rattle.lexer.specs.Names.{index, noted, known}
 use Rattle.parser.specs.declared.names.Names.{Names}
@@ -16,11 +16,6 @@ use Rattle.parser.specs.Numbering.{Numbered, is_word, spelled}
 pub length_spellings : (ws : List (Bor (List ℕ))) → length (spellings ws) ≡ length ws
 length_spellings [] = refl
 length_spellings (w ∷ ws) = ap suc (length_spellings ws)
-
-get_d_spellings : (ws : List (Bor (List ℕ))) (i : ℕ) (d : Bor (List ℕ)) → i < length ws → get_or (spellings ws) i [] ≡ lowered (get_or ws i d).now
-get_d_spellings [] i d h = absurd (omega arith)
-get_d_spellings (w ∷ ws) zero d h = refl
-get_d_spellings (w ∷ ws) (suc i) d h = get_d_spellings ws i d (omega arith)
 
 set_spellings : (ws : List (Bor (List ℕ))) (i : ℕ) (w : Bor (List ℕ)) → spellings (set ws i w) ≡ set (spellings ws) i (lowered w.now)
 set_spellings [] i w = refl
@@ -33,9 +28,6 @@ front ws c = take c (spellings ws)
 
 pub length_front : (ws : List (Bor (List ℕ))) (c : ℕ) → c ≤ length ws → length (front ws c) ≡ c
 length_front ws c h = let e = length_spellings ws in length-take-le c (spellings ws) (omega arith)
-
-get_d_front : (ws : List (Bor (List ℕ))) (c i : ℕ) (d : Bor (List ℕ)) → i < c → i < length ws → get_or (front ws c) i [] ≡ lowered (get_or ws i d).now
-get_d_front ws c i d h k = get_or-take c (spellings ws) i [] h ∙ get_d_spellings ws i d k
 
 take_spellings : (c : ℕ) (ws : List (Bor (List ℕ))) → take c (spellings ws) ≡ spellings (take c ws)
 take_spellings zero ws = refl

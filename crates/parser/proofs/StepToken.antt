@@ -1,5 +1,5 @@
 -- What reading one token does to what is ahead.
-use Rattle.std.proofs.Common.{◌≡◌, ℕ, zero, suc, ◌+◌, ◌*◌, ◌≤◌, Bool, true, false, cond, List, length, Some, None, Ok, Err, Result, sym, refl, ap, ◌∙◌, subst, arith, Bor}
+use Rattle.std.proofs.Common.{◌≡◌, ℕ, zero, suc, ◌+◌, ◌*◌, ◌≤◌, true, false, cond, List, length, Some, None, Ok, Err, Result, sym, refl, ap, ◌∙◌, subst, arith, Bor}
 use borrow.Author.Tests.{clash}
 use Rattle.grammar.specs.Tokens.{at}
 use Rattle.grammar.specs.Tokens as g
@@ -76,15 +76,6 @@ plain_learns : (k : Known) (r : Raw) → plain r ≡ true → learns k r ≡ k
 plain_learns k (name w) h = absurd (clash h)
 plain_learns k (number w) h = refl
 plain_learns k (other x) h = refl
-
-pub plain_goes : (r : Raw) → plain r ≡ true → is_stop r ≡ false
-plain_goes (name w) h = refl
-plain_goes (number w) h = refl
-plain_goes (other x) h = goes (is_stop (other x)) h
-  where
-    goes : (b : Bool) → cond b false true ≡ true → b ≡ false
-    goes true k = absurd (clash k)
-    goes false k = refl
 
 pub advanced : {A : Type 0} (p q : Parser) (r : Result A Refusal) → Ready p → plain (meant p.lookahead.token) ≡ true → Fetches p q r → Advanced p (next p) q r
 advanced p q (Ok u) h go f = reads p q p.names h f (sym (plain_learns (known_of p.names) (meant p.lookahead.token) go))

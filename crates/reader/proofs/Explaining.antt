@@ -29,7 +29,7 @@ use Rattle.lexer.specs.Completion.{Completed}
 use Rattle.lexer.proofs.Scanning.{Places, places, ends_limited, moderate_limited, limited_over, limited_fails, fails_which}
 use Rattle.lexer.proofs.Numbering.{name_law}
 use Rattle.lexer.proofs.Spelled.{completed, completed_end, completed_after}
-use Rattle.reader.specs.Reading.{reading, holding, outcome, count, no, answer, Derived, Limited, Held}
+use Rattle.reader.specs.Reading.{reading, holding, outcome, count, answer, Derived, Limited, Held}
 use Rattle.reader.specs.Reasons.{tokens, Begins, Before, With, Reason, text_length, no_token, name_length, number_size, grammar, depth, name_count, node_count, Accepted}
 
 -- a completion in tokens is one in bytes
@@ -146,11 +146,11 @@ module _ (bs : List ℕ) (short : length bs ≤ 16384) where
 module _ (e : Ending) (r : Listing) (t : Tok) (p : ℕ) (ts : List Item) where
   let_through : (K : List Sym) (s : Listing) (o : Outcome Listing) → Asked t (marks K) p (run list (limits e) K s ts) o → o ≡ accepted r → (run list (limits e) K s ts ≡ accepted r) × (few t ≡ true)
   let_through K s o (passes x y) h = (h, y)
-  let_through K s o (too_deep x) h = absurd (let z : ◌≡◌ {A = ℕ} 0 1 = cc in omega arith)
-  let_through K s o (too_many x y) h = absurd (let z : ◌≡◌ {A = ℕ} 0 1 = cc in omega arith)
+  let_through K s o (too_deep x) h = absurd (cc)
+  let_through K s o (too_many x y) h = absurd (cc)
 
   few_first : ((K : List Sym) (s : Listing) → run list (limits e) K s ts ≡ accepted r → Few ts) → (m : Move Listing) → after list (limits e) (at t p) ts m (λ K s. run list (limits e) K s ts) ≡ accepted r → Few (at t p ∷ ts)
-  few_first f stuck h = absurd (let z : ◌≡◌ {A = ℕ} 0 1 = cc in omega arith)
+  few_first f stuck h = absurd (cc)
   few_first f (go K s) h = let x = let_through K s (asking (at t p) (marks K) (run list (limits e) K s ts)) (asked t (marks K) p (run list (limits e) K s ts)) h in (x.1, f K s x.0)
 
 all_few : (e : Ending) (r : Listing) (ts : List Item) (K : List Sym) (s : Listing) → run list (limits e) K s ts ≡ accepted r → Few ts
@@ -165,7 +165,7 @@ fit k (Rattle.lexer.specs.Scan.over) p e x le f = tt
 -- question 8
 both : (a b : Bool) → a && b ≡ true → (a ≡ true) × (b ≡ true)
 both true b h = (refl, h)
-both false b h = absurd (let z : ◌≡◌ {A = ℕ} 0 1 = cc in omega arith)
+both false b h = absurd (cc)
 
 module _ (cap len : ℕ) where
   held : (o : Outcome Listing) (r : Listing) → holding cap len o ≡ accepted r → (o ≡ accepted r) × (length r.entries ≤ 1024) × (length r.entries ≤ cap)
@@ -176,9 +176,9 @@ module _ (cap len : ℕ) where
           let y : s ≡ r = cc in
           let z = both (leb (length s.entries) 1024) (leb (length s.entries) cap) e in
           (x, subst (λ (v : Listing). length v.entries ≤ 1024) y (leb-true (length s.entries) 1024 z.0), subst (λ (v : Listing). length v.entries ≤ cap) y (leb-true (length s.entries) cap z.1))
-      tested false e x = absurd (let z : ◌≡◌ {A = ℕ} 0 1 = cc in omega arith)
-  held (refused n p) r h = absurd (let z : ◌≡◌ {A = ℕ} 0 1 = cc in omega arith)
-  held unended r h = absurd (let z : ◌≡◌ {A = ℕ} 0 1 = cc in omega arith)
+      tested false e x = absurd (cc)
+  held (refused n p) r h = absurd (cc)
+  held unended r h = absurd (cc)
 
   holds : (s : Listing) → length s.entries ≤ 1024 → length s.entries ≤ cap → holding cap len (accepted s) ≡ accepted s
   holds s a b = ap (λ x. cond (x && leb (length s.entries) cap) (accepted s) (refused 8 len)) (le-leb (length s.entries) 1024 a) ∙ ap (λ x. cond x (accepted s) (refused 8 len)) (le-leb (length s.entries) cap b)
@@ -198,7 +198,7 @@ module _ (cap len : ℕ) where
       tested true e x = inl x
       tested false e x = inr (s, refl, cc, cc, over_one (length s.entries) cap (leb (length s.entries) 1024) (leb (length s.entries) cap) refl refl e)
   refusing (refused m q) n p h = inl h
-  refusing unended n p h = absurd (let z : ◌≡◌ {A = ℕ} 0 1 = cc in omega arith)
+  refusing unended n p h = absurd (cc)
 
 -- question 1
 length_asked : (bs : List ℕ) → (length bs ≤ 16384) ⊎ ((16384 < length bs) × (reading bs ≡ refused 1 0))
@@ -267,9 +267,3 @@ completes cap bs t l h = ap answer (ap (holding cap (length bs)) (complete bs l.
 
 pub one_tree : (bs : List ℕ) (t u : tree.Program ℕ) → Derived bs t → Derived bs u → t ≡ u
 one_tree bs t u d e = law.one_tree (items nothing (scan 0 bs)) t u d.derivation e.derivation
-
--- an answer that is a number and a place is a refusal
-pub refusal_of : (o : Outcome Listing) (x : Question) (p : ℕ) → no (number_of x) p ≡ answer o → o ≡ refused (number_of x) p
-refusal_of (accepted s) x p h = absurd (let z : ◌≡◌ {A = ℕ} 0 1 = cc in omega arith)
-refusal_of (refused n q) x p h = let a : number_of x ≡ n = cc in let b : p ≡ q = cc in ap (λ v. refused v q) (sym a) ∙ ap (refused (number_of x)) (sym b)
-refusal_of unended x p h = let a : number_of x ≡ 0 = cc in absurd (omega (arith, positive x, a))

@@ -38,7 +38,7 @@ module _ (at : ℕ) (bs : List ℕ) where
     ends_there h = ap (gathered (known_of m)) begins ∙ h l.place (limited (scan l.end.place l.end.rest.now))
 
     by_asked : (x : Lexed) → lex at bs ≡ x → lex_meant (Ok l) ≡ asked x → is_stop (meant l.token) ≡ false → length l.end.rest.now < length bs
-    by_asked (none a q) k h go = absurd (let z : ◌≡◌ {A = ℕ} 0 1 = cc in omega arith)
+    by_asked (none a q) k h go = absurd (cc)
     by_asked (lexeme r q a cs) k h go = by_limit (limit r) h
       where
         by_limit : (i : ℕ) → lex_meant (Ok l) ≡ asked_by i (lexeme r q a cs) q → length l.end.rest.now < length bs
@@ -46,7 +46,7 @@ module _ (at : ℕ) (bs : List ℕ) where
             let x : meant l.token ≡ r = cc in
             let y : l.end.rest.now ≡ cs = cc in
             subst (λ u. length u < length bs) (sym y) (fewer at bs k (ap is_stop (sym x) ∙ go))
-        by_limit (suc i) f = absurd (let z : ◌≡◌ {A = ℕ} 0 1 = cc in omega arith)
+        by_limit (suc i) f = absurd (cc)
 
     pub takes : Noted m l.token n true → length l.end.rest.now < length bs
     takes h = by_asked (lex at bs) refl e h.0

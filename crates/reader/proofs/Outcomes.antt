@@ -14,7 +14,6 @@ use Rattle.lexer.specs.Scan.{scan, limited}
 use Rattle.lexer.specs.Names.{nothing, ends}
 use Rattle.parser.proofs.CommandSteps.{clash}
 use Rattle.parser.specs.Feeds.{Feed, feed}
-use Rattle.parser.specs.Advancing.{broken}
 use Rattle.parser.specs.Parsing as parsing
 use Rattle.reader.specs.Reading.{holding, outcome, count, no, answer, answered, table_after, Nodes}
 use Rattle.reader.specs.Reasons.{tokens, Accepted, Explained, Complete}
@@ -27,9 +26,6 @@ module _ (cap : ℕ) (bs : List ℕ) (short : length bs ≤ 16384) where
   -- what the parser makes of the whole feed
   pub parsed : (f : Feed) (o : Outcome Listing) → f ≡ feed nothing (limited (scan 0 bs)) → parsing.reading (text ∷ []) (listing [] []) f ≡ o → outcome cap bs ≡ holding cap (length bs) o
   parsed f o e h = ap (holding cap (length bs)) (reads_short bs short ∙ sym (ap (parsing.reading (text ∷ []) (listing [] [])) e) ∙ h)
-
-  pub first_refused : (e : Refusal) → feed nothing (limited (scan 0 bs)) ≡ broken e → outcome cap bs ≡ refused (number_of e.question) e.place
-  first_refused e h = parsed (broken e) (refused (number_of e.question) e.place) (sym h) refl
 
 module _ (bs : List ℕ) (short : length bs ≤ 16384) (T : List Entry) (f : Feed) (e : f ≡ feed nothing (limited (scan 0 bs))) (s : Listing) (h : parsing.reading (text ∷ []) (listing [] []) f ≡ accepted s) where
   pub held : (b : Bool) → b ≡ (leb (length s.entries) 1024 && leb (length s.entries) (length T)) → outcome (length T) bs ≡ cond b (accepted s) (refused 8 (length bs))

@@ -1,5 +1,5 @@
 -- The machine, going on from where it stopped, answers as the plan does, which begins anew at each run.
-use Rattle.std.proofs.Common.{◌≡◌, ℕ, suc, ◌+◌, ◌<◌, ◌≤◌, Bool, List, [], ◌∷◌, ◌++◌, length, drop, ℤ, pos, Some, Option, sym, refl, ap, ◌∙◌, subst, ap₂, arith, length-append, length-drop}
+use Rattle.std.proofs.Common.{◌≡◌, ℕ, suc, ◌+◌, ◌<◌, ◌≤◌, Bool, List, [], ◌∷◌, ◌++◌, length, drop, ℤ, pos, Some, Ok, Err, Option, sym, refl, ap, ◌∙◌, subst, ap₂, arith, length-append, length-drop}
 use Rattle.std.proofs.lemmas.List.{drop-append-le, append_assoc, append-nil}
 use Rattle.tosca.specs.Trees.{Program}
 use Rattle.aida.specs.declared.status.Status.{Status}
@@ -7,13 +7,12 @@ use Rattle.aida.specs.declared.status.Status.TheVariants.{Ready, Finished}
 use Rattle.aida.specs.declared.calls.Refusal.{Refusal}
 use Rattle.aida.specs.declared.calls.Refusal.TheVariants.{NoRoom, NoSend}
 use Rattle.aida.specs.declared.calls.Call.{Call}
-use Rattle.aida.specs.declared.calls.Answer.{Answer}
-use Rattle.aida.specs.declared.calls.Answer.TheVariants.{Fed, Took, Ran, Refused}
+use Rattle.aida.specs.declared.calls.Answer.TheVariants.{Fed, Took, Ran}
 use Rattle.tosca.specs.Types.{type_in}
 use Rattle.aida.specs.Source.{Given, Effects, initial, Outcome, Ended, ended, source_run}
 use Rattle.aida.specs.Machine.{Machine, machine, with_status, started, feed, take, Reach, here, Runs}
 use Rattle.aida.specs.Templates.{cmd_length, code}
-use Rattle.aida.specs.Plan.{Plan, new_plan, sends_waiting, Planned, feed_if, take_from, keep, given_so_far, run_unless, plan, answers, plan_after}
+use Rattle.aida.specs.Plan.{Reply, Plan, new_plan, sends_waiting, Planned, feed_if, take_from, keep, given_so_far, run_unless, plan, answers, plan_after}
 use Rattle.agreement.specs.Premises.{Checked}
 use Rattle.agreement.specs.Simulation.{Agrees, beside, CmdRuns, passes, halts, unsaid_cmd, RunsAs, RoutineSimulation}
 use Rattle.agreement.specs.Agreement.{Responds, feeds, no_room, takes, no_send, runs, no_run, RespondsAll, over, call, Stands, Agreement}
@@ -88,7 +87,7 @@ module _ (p : Program ℕ) (checked : Checked p) (start : List ℤ) (long : leng
     taken : pl.taken ≤ length pl.sent
     agrees : Agrees start pl.variables cells
 
-  abbrev agrees_to : Planned → Answer → Machine → Type 0
+  abbrev agrees_to : Planned → Reply → Machine → Type 0
   agrees_to t x m = (x ≡ t.answer) × Inv t.after m
 
   self : {pl : Plan} {m : Machine} (v : Inv pl m) → Inv pl (with_status pl.stop (standing pl v.counter v.accumulator v.cells))
@@ -143,10 +142,10 @@ module _ (p : Program ℕ) (checked : Checked p) (start : List ℤ) (long : leng
   some_left k l z zs e = omega (arith, ap length e, length-drop k l)
 
   on_take : (pl : Plan) {m : Machine} (v : Inv pl m) (z : ℤ) (zs : List ℤ) → drop pl.taken pl.sent ≡ z ∷ zs
-      → agrees_to (take_from (sends_waiting pl) pl) (Took z) (take 1 (with_status pl.stop (standing pl v.counter v.accumulator v.cells)))
+      → agrees_to (take_from (sends_waiting pl) pl) (Ok (Took z)) (take 1 (with_status pl.stop (standing pl v.counter v.accumulator v.cells)))
   unfolding take_from
   on_take pl v z zs e =
-      subst (λ (l : List ℤ). agrees_to (take_from l pl) (Took z) (take 1 (with_status pl.stop (standing pl v.counter v.accumulator v.cells)))) (sym e) (
+      subst (λ (l : List ℤ). agrees_to (take_from l pl) (Ok (Took z)) (take 1 (with_status pl.stop (standing pl v.counter v.accumulator v.cells)))) (sym e) (
         refl,
         record {
           counter = v.counter;
@@ -168,7 +167,7 @@ module _ (p : Program ℕ) (checked : Checked p) (start : List ℤ) (long : leng
 
   on_run : (pl : Plan) {m : Machine} (v : Inv pl m) (n : ℕ) (b : Machine) (e : Ended) → source_run p (given_so_far sl pl n) ≡ Some e
       → Runs (code p) sl (pl.turns + n) (standing pl v.counter v.accumulator v.cells) b
-      → agrees_to (keep (source_run p (given_so_far sl pl n)) pl) (Ran b.status b.turns) b
+      → agrees_to (keep (source_run p (given_so_far sl pl n)) pl) (Ok (Ran b.status b.turns)) b
   unfolding keep
   on_run pl v n b e q r =
       let g = given_so_far sl pl n in
@@ -186,8 +185,8 @@ module _ (p : Program ℕ) (checked : Checked p) (start : List ℤ) (long : leng
       let grown : length pl.sent ≤ length e.state.effects.sent =
       subst (λ (x : Machine). length pl.sent ≤ length x.sends) (at_last {a = now} refl rest) (onward (code p) (pl.taken + sl) (pl.turns + n) {a = now} rest.reach).sends in
       let same : b ≡ take pl.taken c = one_end (code p) sl (pl.turns + n) (standing pl v.counter v.accumulator v.cells) b (take pl.taken c) r (take_runs pl.taken sl (pl.turns + n) refl v.taken rest) in
-      subst (λ (o : Option Ended). agrees_to (keep o pl) (Ran b.status b.turns) b) (sym q) (
-        ap₂ {A = Status} {B = ℕ} Ran (ap (λ (x : Machine). x.status) same) (ap (λ (x : Machine). x.turns) same),
+      subst (λ (o : Option Ended). agrees_to (keep o pl) (Ok (Ran b.status b.turns)) b) (sym q) (
+        ap₂ {A = Status} {B = ℕ} {C = Reply} (λ s n. Ok (Ran s n)) (ap (λ (x : Machine). x.status) same) (ap (λ (x : Machine). x.turns) same),
         record {
           counter = C.counter;
           accumulator = C.accumulator;
@@ -206,28 +205,28 @@ module _ (p : Program ℕ) (checked : Checked p) (start : List ℤ) (long : leng
         },
       )
 
-  on_call : (pl : Plan) {m : Machine} (v : Inv pl m) (k : Call) (x : Answer) (b : Machine) → Responds (code p) rl sl (with_status pl.stop (standing pl v.counter v.accumulator v.cells)) k x b → agrees_to (plan p rl sl pl k) x b
+  on_call : (pl : Plan) {m : Machine} (v : Inv pl m) (k : Call) (x : Reply) (b : Machine) → Responds (code p) rl sl (with_status pl.stop (standing pl v.counter v.accumulator v.cells)) k x b → agrees_to (plan p rl sl pl k) x b
   unfolding plan feed_if take_from run_unless
   on_call pl v k x b (feeds {z} e) =
-      subst (λ (c : Bool). agrees_to (feed_if c z pl) Fed (feed (z ∷ []) (with_status pl.stop (standing pl v.counter v.accumulator v.cells)))) (sym e) (refl, after_feed pl v z)
+      subst (λ (c : Bool). agrees_to (feed_if c z pl) (Ok Fed) (feed (z ∷ []) (with_status pl.stop (standing pl v.counter v.accumulator v.cells)))) (sym e) (refl, after_feed pl v z)
   on_call pl v k x b (no_room {z} e) =
-      subst (λ (c : Bool). agrees_to (feed_if c z pl) (Refused NoRoom) (with_status pl.stop (standing pl v.counter v.accumulator v.cells))) (sym e) (refl, self v)
+      subst (λ (c : Bool). agrees_to (feed_if c z pl) (Err NoRoom) (with_status pl.stop (standing pl v.counter v.accumulator v.cells))) (sym e) (refl, self v)
   on_call pl v k x b (takes {z} {zs} e) = on_take pl v z zs e
   on_call pl v k x b (no_send e) =
-      subst (λ (l : List ℤ). agrees_to (take_from l pl) (Refused NoSend) (with_status pl.stop (standing pl v.counter v.accumulator v.cells))) (sym e) (refl, self v)
+      subst (λ (l : List ℤ). agrees_to (take_from l pl) (Err NoSend) (with_status pl.stop (standing pl v.counter v.accumulator v.cells))) (sym e) (refl, self v)
   on_call pl v k x b (runs {grant = n} {b = c} e r) =
       let s = source_ends p checked (given_so_far sl pl n) in
-      subst (λ (o : Option Refusal). agrees_to (run_unless o p (given_so_far sl pl n) pl) (Ran c.status c.turns) c) (sym e) (on_run pl v n c s.0 s.1 r)
+      subst (λ (o : Option Refusal). agrees_to (run_unless o p (given_so_far sl pl n) pl) (Ok (Ran c.status c.turns)) c) (sym e) (on_run pl v n c s.0 s.1 r)
   on_call pl v k x b (no_run {grant = n} {r = r} e) =
-      subst (λ (o : Option Refusal). agrees_to (run_unless o p (given_so_far sl pl n) pl) (Refused r) (with_status pl.stop (standing pl v.counter v.accumulator v.cells))) (sym e) (refl, self v)
+      subst (λ (o : Option Refusal). agrees_to (run_unless o p (given_so_far sl pl n) pl) (Err r) (with_status pl.stop (standing pl v.counter v.accumulator v.cells))) (sym e) (refl, self v)
 
-  all_agree : {m b : Machine} {ks : List Call} {xs : List Answer} (pl : Plan) → Inv pl m → RespondsAll (code p) rl sl m ks xs b → (xs ≡ answers p rl sl pl ks) × Inv (plan_after p rl sl pl ks) b
+  all_agree : {m b : Machine} {ks : List Call} {xs : List Reply} (pl : Plan) → Inv pl m → RespondsAll (code p) rl sl m ks xs b → (xs ≡ answers p rl sl pl ks) × Inv (plan_after p rl sl pl ks) b
   unfolding answers plan_after
   all_agree pl v over = (refl, v)
   all_agree pl v (call {b = b} {k = k} {x = x} {xs = xs} d s) =
       let h = on_call pl v k x b (subst (λ (y : Machine). Responds (code p) rl sl y k x b) v.is d) in
       let r = all_agree (plan p rl sl pl k).after h.1 s in
-      (ap₂ {A = Answer} {B = List Answer} {C = List Answer} (λ y ys. y ∷ ys) h.0 r.0, r.1)
+      (ap₂ {A = Reply} {B = List Reply} {C = List Reply} (λ y ys. y ∷ ys) h.0 r.0, r.1)
 
   first_inv : (first : List ℤ) → Inv (new_plan first) (started start first)
   first_inv first = record {
@@ -256,6 +255,6 @@ agreement p checked start first long rl sl ks =
     let r = answering (code p) rl sl (started start first) ks in
     let a = all_agree p checked start long rl sl (new_plan first) (first_inv p checked start long rl sl first) r.2 in (
       r.1,
-      subst (λ (xs : List Answer). RespondsAll (code p) rl sl (started start first) ks xs r.1) a.0 r.2,
+      subst (λ (xs : List Reply). RespondsAll (code p) rl sl (started start first) ks xs r.1) a.0 r.2,
       stands p checked start long rl sl _ r.1 a.1,
     )

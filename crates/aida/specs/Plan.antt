@@ -1,6 +1,6 @@
 -- The plan: what a panel with its line must answer to each call, and what it then holds.
 -- Each run is a source run from the beginning with all that was given so far.
-use Rattle.std.specs.Prelude.{ℕ, suc, ◌+◌, Bool, true, false, List, [], ◌∷◌, ◌++◌, length, drop, ℤ, Some, None, Option, nat_lt}
+use Rattle.std.specs.Prelude.{ℕ, suc, ◌+◌, Bool, true, false, List, [], ◌∷◌, ◌++◌, length, drop, ℤ, Some, None, Ok, Err, Option, Result, nat_lt}
 use Rattle.tosca.specs.Trees.{Program}
 use Rattle.aida.specs.declared.status.Status.{Status}
 use Rattle.aida.specs.declared.status.Status.TheVariants.{Ready}
@@ -9,7 +9,7 @@ use Rattle.aida.specs.declared.calls.Refusal.TheVariants.{NoRoom, NoSend}
 use Rattle.aida.specs.declared.calls.Call.{Call}
 use Rattle.aida.specs.declared.calls.Call.TheVariants.{Feed, Run, Take}
 use Rattle.aida.specs.declared.calls.Answer.{Answer}
-use Rattle.aida.specs.declared.calls.Answer.TheVariants.{Fed, Took, Ran, Refused}
+use Rattle.aida.specs.declared.calls.Answer.TheVariants.{Fed, Took, Ran}
 use Rattle.aida.specs.Source.{Given, Variables, Ended, source_run}
 use Rattle.aida.specs.Refusals.{run_refusal}
 
@@ -34,18 +34,22 @@ readings_waiting p = drop p.used p.accepted
 abbrev pub sends_waiting : Plan → List ℤ
 sends_waiting p = drop p.taken p.sent
 
--- an answer, and the plan after it
+-- what a call comes to: what it does, or why it is refused
+abbrev pub Reply : Type 0
+Reply = Result Answer Refusal
+
+-- a reply, and the plan after it
 pub record Planned : Type 0 where
-  pub answer : Answer
+  pub answer : Reply
   pub after : Plan
 
 -- a refusal alters nothing
 abbrev pub refuse : Refusal → Plan → Planned
-refuse r p = record { answer = Refused r; after = p }
+refuse r p = record { answer = Err r; after = p }
 
 unfoldable pub feed_if : Bool → ℤ → Plan → Planned
 feed_if true z p = record {
-  answer = Fed;
+  answer = Ok Fed;
   after = record { accepted = p.accepted ++ z ∷ []; used = p.used; sent = p.sent; taken = p.taken; turns = p.turns; stop = p.stop; variables = p.variables };
 }
 feed_if false z p = refuse NoRoom p
@@ -53,7 +57,7 @@ feed_if false z p = refuse NoRoom p
 unfoldable pub take_from : List ℤ → Plan → Planned
 take_from [] p = refuse NoSend p
 take_from (z ∷ zs) p = record {
-  answer = Took z;
+  answer = Ok (Took z);
   after = record { accepted = p.accepted; used = p.used; sent = p.sent; taken = suc p.taken; turns = p.turns; stop = p.stop; variables = p.variables };
 }
 
@@ -61,7 +65,7 @@ take_from (z ∷ zs) p = record {
 -- A stuck one has none of them; then nothing is altered
 unfoldable pub keep : Option Ended → Plan → Planned
 keep (Some e) p = record {
-  answer = Ran e.stop e.state.effects.turns;
+  answer = Ok (Ran e.stop e.state.effects.turns);
   after = record {
     accepted = p.accepted;
     used = e.state.effects.used;
@@ -72,7 +76,7 @@ keep (Some e) p = record {
     variables = e.state.variables;
   };
 }
-keep None p = record { answer = Ran p.stop p.turns; after = p }
+keep None p = record { answer = Ok (Ran p.stop p.turns); after = p }
 
 -- all that was given so far: the readings accepted, the turns and the grant, the sends taken and the send limit
 abbrev pub given_so_far : ℕ → Plan → ℕ → Given
@@ -89,7 +93,7 @@ plan t reading_limit send_limit p Take = take_from (sends_waiting p) p
 plan t reading_limit send_limit p (Run grant) = run_unless (run_refusal grant p.stop p.turns) t (given_so_far send_limit p grant) p
 
 -- calls one after another: their answers, and the plan after them
-unfoldable pub answers : Program ℕ → (reading_limit send_limit : ℕ) → Plan → List Call → List Answer
+unfoldable pub answers : Program ℕ → (reading_limit send_limit : ℕ) → Plan → List Call → List Reply
 answers t reading_limit send_limit p [] = []
 answers t reading_limit send_limit p (k ∷ ks) =
     (plan t reading_limit send_limit p k).answer ∷ answers t reading_limit send_limit (plan t reading_limit send_limit p k).after ks

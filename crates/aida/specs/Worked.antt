@@ -1,5 +1,5 @@
 -- Worked examples, with the node numbers that reading their texts gives.
-use Rattle.std.specs.Prelude.{◌≡◌, ℕ, List, [], ◌∷◌, pos, Some, None, Option}
+use Rattle.std.specs.Prelude.{◌≡◌, ℕ, List, [], ◌∷◌, pos, Some, None, Ok, Err, Option}
 use Rattle.tosca.specs.declared.operators.SimpleType.TheVariants.{Integer}
 use Rattle.tosca.specs.declared.operators.Value.{Value}
 use Rattle.tosca.specs.declared.operators.Value.TheVariants.{Number}
@@ -11,11 +11,10 @@ use Rattle.aida.specs.declared.status.Status.TheVariants.{Spent, Finished}
 use Rattle.aida.specs.declared.calls.Refusal.TheVariants.{NoSend, Ended}
 use Rattle.aida.specs.declared.calls.Call.{Call}
 use Rattle.aida.specs.declared.calls.Call.TheVariants.{Feed, Run, Take}
-use Rattle.aida.specs.declared.calls.Answer.{Answer}
-use Rattle.aida.specs.declared.calls.Answer.TheVariants.{Fed, Took, Ran, Refused}
+use Rattle.aida.specs.declared.calls.Answer.TheVariants.{Fed, Took, Ran}
 use Rattle.aida.specs.Source.{eval, fault}
 use Rattle.aida.specs.Templates.{coded, code}
-use Rattle.aida.specs.Plan.{Plan, new_plan, answers, plan_after}
+use Rattle.aida.specs.Plan.{Reply, Plan, new_plan, answers, plan_after}
 
 abbrev pub integer : ℕ → ℕ → Decl ℕ
 integer n x = record { label = n; name = x; type = Integer }
@@ -50,7 +49,7 @@ abbrev pub faulty : Expr ℕ
 faulty = bin 6 (bin 2 (num 0 1) Divide (num 1 0)) Add (bin 5 (num 3 2147483647) Add (num 4 1))
 
 -- the routine's answers, on a line of 64 and 64
-abbrev pub answers_of : Program ℕ → List Call → List Answer
+abbrev pub answers_of : Program ℕ → List Call → List Reply
 answers_of p ks = answers p 64 64 (new_plan []) ks
 
 abbrev pub plan_of : Program ℕ → List Call → Plan
@@ -61,7 +60,7 @@ whole n = Some (Number (pos n))
 
 pub record Worked : Type 0 where
   pub empty_code : code empty ≡ []
-  pub empty_run : answers_of empty (Run 0 ∷ []) ≡ Ran Finished 0 ∷ []
+  pub empty_run : answers_of empty (Run 0 ∷ []) ≡ Ok (Ran Finished 0) ∷ []
   pub lowering_code :
       code lowering ≡ coded 2 (LoadConst (pos 5)) ∷ coded 3 (Store 64) ∷ coded 1 (LoadVar 0) ∷ coded 3 (BinaryOp Subtract 64) ∷ coded 4 (Store 0) ∷ []
   pub drying_spent : (plan_of drying (Feed (pos 86) ∷ Run 2 ∷ [])).stop ≡ Spent
@@ -69,7 +68,7 @@ pub record Worked : Type 0 where
   pub drying_t : (plan_of drying (Feed (pos 86) ∷ Run 2 ∷ [])).variables 1 ≡ whole 3
   pub drying_sent : (plan_of drying (Feed (pos 86) ∷ Run 2 ∷ [])).sent ≡ []
   pub drying_answers :
-      answers_of drying (Feed (pos 86) ∷ Run 2 ∷ Take ∷ Run 3 ∷ Take ∷ Run 1 ∷ []) ≡ Fed ∷ Ran Spent 2 ∷ Refused NoSend ∷ Ran Finished 3 ∷ Took (pos 3) ∷ Refused Ended ∷ []
-  pub drying_at_once : answers_of drying (Feed (pos 86) ∷ Run 3 ∷ Take ∷ []) ≡ Fed ∷ Ran Finished 3 ∷ Took (pos 3) ∷ []
+      answers_of drying (Feed (pos 86) ∷ Run 2 ∷ Take ∷ Run 3 ∷ Take ∷ Run 1 ∷ []) ≡ Ok Fed ∷ Ok (Ran Spent 2) ∷ Err NoSend ∷ Ok (Ran Finished 3) ∷ Ok (Took (pos 3)) ∷ Err Ended ∷ []
+  pub drying_at_once : answers_of drying (Feed (pos 86) ∷ Run 3 ∷ Take ∷ []) ≡ Ok Fed ∷ Ok (Ran Finished 3) ∷ Ok (Took (pos 3)) ∷ []
   -- the right operand first: cause 1, at the second `+`
   pub right_first : eval (λ x. None) faulty ≡ fault Range 5

@@ -21,14 +21,17 @@ pub enum Refusal {
     TooManyTurns = 63,
 }
 
+// What a call that is not refused does.
 #[derive(Clone, Copy, PartialEq, Debug)]
 pub enum Answer {
     Fed,
     Took(i32),
     // the stop, and the turns spent over all runs
     Ran(Status, u32),
-    Refused(Refusal),
 }
+
+// What a call comes to.
+pub type Reply = Result<Answer, Refusal>;
 
 impl Refusal {
     // The number that users see.

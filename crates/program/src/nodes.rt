@@ -73,13 +73,12 @@ fn kind_code(word: &str) -> Option<u8> {
 
 // The code of an operator; 0 is none.
 pub fn operator_code(word: &str) -> Option<u8> {
-    let node = match word {
-        UNKNOWN => return Some(0),
-        "neg" => Node::Uny(Unary::Negate, 0),
-        "not" => Node::Uny(Unary::Not, 0),
-        _ => Node::Bin(0, binary(word)?, 0),
-    };
-    Some(Entry::new(node, 0).op)
+    match word {
+        UNKNOWN => Some(0),
+        "neg" => Some(Unary::Negate.into()),
+        "not" => Some(Unary::Not.into()),
+        _ => binary(word).map(u8::from),
+    }
 }
 
 fn binary(word: &str) -> Option<Binary> {
@@ -100,13 +99,12 @@ fn binary(word: &str) -> Option<Binary> {
 
 // The code of a type; 0 is none.
 fn type_code(word: &str) -> Option<u8> {
-    let typ = match word {
-        UNKNOWN => return Some(0),
-        "integer" => SimpleType::Integer,
-        "boolean" => SimpleType::Boolean,
-        _ => return None,
-    };
-    Some(Entry::new(Node::Decl(0, typ), 0).typ)
+    match word {
+        UNKNOWN => Some(0),
+        "integer" => Some(SimpleType::Integer.into()),
+        "boolean" => Some(SimpleType::Boolean.into()),
+        _ => None,
+    }
 }
 
 fn number(word: &str) -> Option<u16> {

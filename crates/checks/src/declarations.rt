@@ -23,6 +23,7 @@ pub(crate) fn repeated_name(draft: &Draft) -> Option<u16>
     ensures { result ≡ lowest (faults DeclaredOnce (tree_of draft.now)) }
 {
     let mut seen = Names::none();
+    // by number, which is the answer, and at which every draft has a node
     for n in 0..count(draft) {
         if let Node::Decl(name, _) = node_at(draft, n) {
             if seen.has(name) {

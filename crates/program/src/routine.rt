@@ -58,10 +58,9 @@ pub fn table(rt: &HostRuntime, file: &str) -> Result<(), Failure> {
 
 // The bytes of the file, as many as matter.
 fn load(rt: &HostRuntime, file: &str) -> Result<Vec<u8>, Failure> {
-    match load_bytes(rt, file) {
-        Ok(text) => Ok(text),
-        Err(error) => Err(Failure::Unreadable(String::from_str(rt.alloc(), file)?, error)),
-    }
+    load_bytes(rt, file).try_map_err(|error| -> Result<Failure, Failure> {
+        Ok(Failure::Unreadable(String::from_str(rt.alloc(), file)?, error))
+    })
 }
 
 fn load_bytes(rt: &HostRuntime, file: &str) -> io::Result<Vec<u8>> {
@@ -101,7 +100,7 @@ fn print_node<W: Write>(
     text: &[u8],
     names: &Names,
 ) -> io::Result<()> {
-    let place = Position::new(text, entry.place as usize);
+    let place = Position::new(text, usize::from(entry.place));
     let Some(node) = entry.node() else {
         return writeln!(out, "{number:>4}  {entry}  {place}");
     };

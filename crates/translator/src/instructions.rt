@@ -38,13 +38,13 @@ pub(crate) fn in_order(left: u16, right: u16) -> Operands
     }
 }
 
-// T is 1 and F is 0.
+// T is 1 and F is 0. A function and no From, which would have to stand beside Value, in a crate that knows no cells.
 pub(crate) fn number(value: Value) -> i32
     ensures { result ≡ number_of value }
 {
     match value {
         Value::Number(z) => z,
-        Value::Truth(b) => b as i32,
+        Value::Truth(b) => i32::from(b),
     }
 }
 

@@ -8,28 +8,17 @@ use Rattle.grammar.specs.declared.symbols.Start.TheVariants as begins
 use Rattle.grammar.specs.declared.symbols.Start.TheVariants.{Begin}
 use Rattle.grammar.specs.Tokens.{Tok, name, lit, op, pre, start, else', unused, ty, mark}
 use Rattle.grammar.specs.Building.{Named, typed, declares}
-use Rattle.grammar.specs.Automaton.{Sym, is, vars, decls, a_name, names, type, body, marks, step, at_begin, at_type, Move, stuck, go}
+use Rattle.grammar.specs.Automaton.{Sym, is, vars, decls, a_name, names, type, body, marks, step, at_begin, Move, stuck, go}
 use Rattle.grammar.specs.Listing.{Listing, listing, list}
 use Rattle.lexer.specs.declared.token.Refusal.{Refusal}
 use Rattle.parser.specs.declared.parser.Parser.{Parser}
 use Rattle.parser.specs.Feeds.{ahead, next, unread, Ready}
 use Rattle.parser.specs.Advancing.{is_mark, is_name, Read, Expected}
 use Rattle.parser.specs.Parsing.{Holds, reading, Goes, Stops}
-use Rattle.declarations.specs.Declaring.{Used, Passes, Drafted, drafts, retyped, is_type, is_begin, Unbegun, Begun, another, cut}
+use Rattle.declarations.specs.Declaring.{Used, Passes, Drafted, drafts, retyped, is_begin, Unbegun, Begun, another, cut}
 use Rattle.parser.proofs.Chains.{chain, chain_stop, takes}
 use Rattle.parser.proofs.CommandSteps.{clash, reads_on, turns, refused_here, cuts_off, misses_mark, not_mark, is_mark_lem, mark_few, not_name}
 use Rattle.declarations.proofs.DeclarNames.{shallow, retype_holds, declares_drafts}
-
-not_type : (t : Tok) (g : SimpleType → Move Listing) → is_type t ≡ false → at_type list t g ≡ stuck
-not_type (ty y) g h = clash h
-not_type (name n) g h = refl
-not_type (mark x) g h = refl
-not_type (lit l) g h = refl
-not_type (op o) g h = refl
-not_type (pre x) g h = refl
-not_type (start x) g h = refl
-not_type else' g h = refl
-not_type unused g h = refl
 
 -- the type of drafted names is read, and they are listed
 module _ (P A : Parser) (T T₁ : List Entry) (ns : List Named) (f : Drafted a_name type P T ns A T₁) where

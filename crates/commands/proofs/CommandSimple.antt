@@ -6,7 +6,7 @@ use Rattle.tosca.specs.declared.table.Node.TheVariants.{Assign, Input, Output}
 use Rattle.grammar.specs.declared.symbols.Mark.TheVariants.{Becomes, Close}
 use Rattle.grammar.specs.declared.symbols.Prefix.TheVariants.{Open}
 use Rattle.grammar.specs.declared.symbols.Start.TheVariants as begins
-use Rattle.grammar.specs.Tokens.{Tok, name, pre, start, mark}
+use Rattle.grammar.specs.Tokens.{name, pre, start, mark}
 use Rattle.grammar.specs.Building.{a_assign, a_input, a_output}
 use Rattle.grammar.specs.Automaton.{Sym, expr, cmd, is, does, marks}
 use Rattle.lexer.specs.declared.token.Refusal.{Refusal}
@@ -26,18 +26,6 @@ listed_less slack P C D T T' n place r h k l a b =
     let same : unread D ≡ unread C = ap (λ f. length f.tokens) l.same in
     (l.ready k (omega (arith, same, l.count, h, b)), omega (arith, same, a), omega (arith, same, l.count, b))
 
--- the tokens of the simple commands
-pub less_assigned : (P A B C D : Parser) (t u : Tok) (T T' : List Entry) (n : Node) (place v r : ℕ) → Ready P → Read P t A → Read A u B → Less 0 B C (Ok v) → Listed C T n place r D T' → Less 0 P D (Ok r)
-less_assigned P A B C D t u T T' n place v r h a b e l = listed_less 0 P C D T T' n place r (omega (arith, h.room)) e.0 l (omega (arith, a.one, b.one, e.1)) (omega (arith, a.one, a.count, b.one, b.count, e.2))
-
-pub less_output : (P A B C D E : Parser) (t u x : Tok) (T T' : List Entry) (n : Node) (place v r : ℕ) → Ready P → Read P t A → Read A u B → Less 0 B C (Ok v) → Read C x D → Listed D T n place r E T' → Less 0 P E (Ok r)
-less_output P A B C D E t u x T T' n place v r h a b e c l = listed_less 0 P D E T T' n place r (omega (arith, h.room)) c.ready l (omega (arith, a.one, b.one, e.1, c.one)) (omega (arith, a.one, a.count, b.one, b.count, e.2, c.one, c.count))
-
-pub less_input : (P A B C D E : Parser) (t u x y : Tok) (T T' : List Entry) (n : Node) (place r v : ℕ) → Read P t A → Read A u B → Read B x C → Listed C T n place r D T' → Read D y E → Less 0 P E (Ok v)
-less_input P A B C D E t u x y T T' n place r v a b c l d =
-    let same : unread D ≡ unread C = ap (λ f. length f.tokens) l.same in
-    (d.ready, omega (arith, a.one, b.one, c.one, same, d.one), omega (arith, a.one, a.count, b.one, b.count, c.one, c.count, same, l.count, d.one, d.count))
-
 -- name := expr
 assigning : (d : ℕ) (P A B : Parser) (T : List Entry) (x : ℕ) (L : List Sym) → marks L ≡ d → d ≤ 32 → x < 64 → Read P (name x) A → Read A (mark Becomes) B → Goes (cmd ∷ L) [] P.count T (ahead P) (expr ∷ does (a_assign A.lookahead.place x) ∷ L) [] B.count T (ahead B)
 assigning d P A B T x L m h few a b = chain (reads_on a (λ s. refl) (within_limit m h) (lt-ltb x 64 few)) (reads_on b (λ s. refl) (within_limit m h) refl)
@@ -54,9 +42,6 @@ inputting d P A B C D T T₁ x r L m h few a b n l = chain (reads_on a (λ s. re
 
 pub inputs : (d : ℕ) (P A B C D E : Parser) (T T₁ : List Entry) (x r : ℕ) → d ≤ 32 → x < 64 → Read P (start begins.Read) A → Read A (pre Open) B → Read B (name x) C → Listed C T (Input x) P.lookahead.place r D T₁ → Read D (mark Close) E → Parsed cmd d P T E T₁ (Ok r)
 inputs d P A B C D E T T₁ x r h few a b n l e = λ L m. chain (inputting d P A B C D T T₁ x r L m h few a b n l) (reads_on e (λ s. refl) (within_limit m h) refl)
-
-pub inputs_open : (d : ℕ) (P A B C D E : Parser) (T T₁ T₂ : List Entry) (x r : ℕ) (w : Refusal) → d ≤ 32 → x < 64 → Read P (start begins.Read) A → Read A (pre Open) B → Read B (name x) C → Listed C T (Input x) P.lookahead.place r D T₁ → Missed Close D w → Parsed cmd d P T E T₂ (Err w)
-inputs_open d P A B C D E T T₁ T₂ x r w h few a b n l e = λ L m. chain_stop (inputting d P A B C D T T₁ x r L m h few a b n l) (misses_mark Close D e (λ s. refl) (within_limit m h))
 
 -- write ( expr )
 outputting : (d : ℕ) (P A B : Parser) (T : List Entry) (L : List Sym) → marks L ≡ d → d ≤ 32 → Read P (start begins.Write) A → Read A (pre Open) B → Goes (cmd ∷ L) [] P.count T (ahead P) (expr ∷ is Close ∷ does (a_output P.lookahead.place) ∷ L) [] B.count T (ahead B)

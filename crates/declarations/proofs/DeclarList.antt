@@ -1,5 +1,5 @@
 -- Declarations and the whole text, exit by exit.
-use Rattle.std.proofs.Common.{◌≡◌, ℕ, suc, ◌+◌, ◌-◌, ◌*◌, ◌≤◌, true, false, List, [], ◌∷◌, ◌++◌, length, Ok, Err, Result, sym, refl, ap, ◌∙◌, subst, arith}
+use Rattle.std.proofs.Common.{◌≡◌, ℕ, suc, ◌+◌, ◌-◌, ◌*◌, ◌≤◌, true, false, List, [], ◌∷◌, ◌++◌, Ok, Err, Result, sym, refl, ap, ◌∙◌, subst, arith}
 use Rattle.tosca.specs.declared.operators.SimpleType.{SimpleType}
 use Rattle.tosca.specs.declared.operators.SimpleType.TheVariants.{Integer}
 use Rattle.tosca.specs.declared.table.Entry.{Entry}
@@ -8,28 +8,17 @@ use Rattle.grammar.specs.declared.symbols.Start.TheVariants as begins
 use Rattle.grammar.specs.declared.symbols.Start.TheVariants.{Begin}
 use Rattle.grammar.specs.Tokens.{Tok, name, lit, op, pre, start, else', unused, ty, mark}
 use Rattle.grammar.specs.Building.{Named, typed, declares}
-use Rattle.grammar.specs.Automaton.{Sym, is, vars, decls, a_name, names, type, body, marks, step, at_begin, at_type, Move, stuck, go}
-use Rattle.grammar.specs.Listing.{Listing, listing, list, laid}
+use Rattle.grammar.specs.Automaton.{Sym, is, vars, decls, a_name, names, type, body, marks, step, at_begin, Move, stuck, go}
+use Rattle.grammar.specs.Listing.{Listing, listing, list}
 use Rattle.lexer.specs.declared.token.Refusal.{Refusal}
 use Rattle.parser.specs.declared.parser.Parser.{Parser}
 use Rattle.parser.specs.Feeds.{ahead, next, unread, Ready}
-use Rattle.parser.specs.Advancing.{is_mark, is_name, Read, Broken, Expected}
+use Rattle.parser.specs.Advancing.{is_mark, is_name, Read, Expected}
 use Rattle.parser.specs.Parsing.{Holds, reading, Goes, Stops}
-use Rattle.declarations.specs.Declaring.{Used, Passes, Drafted, Drafts, drafts, retyped, is_type, Untyped, is_begin, Unbegun, Begun, another, cut}
-use Rattle.parser.proofs.Chains.{chain, chain_stop, moves, takes}
+use Rattle.declarations.specs.Declaring.{Used, Passes, Drafted, drafts, retyped, is_begin, Unbegun, Begun, another, cut}
+use Rattle.parser.proofs.Chains.{chain, chain_stop, takes}
 use Rattle.parser.proofs.CommandSteps.{clash, reads_on, turns, refused_here, cuts_off, misses_mark, not_mark, is_mark_lem, mark_few, not_name}
 use Rattle.declarations.proofs.DeclarNames.{shallow, retype_holds, declares_drafts}
-
-not_type : (t : Tok) (g : SimpleType → Move Listing) → is_type t ≡ false → at_type list t g ≡ stuck
-not_type (ty y) g h = clash h
-not_type (name n) g h = refl
-not_type (mark x) g h = refl
-not_type (lit l) g h = refl
-not_type (op o) g h = refl
-not_type (pre x) g h = refl
-not_type (start x) g h = refl
-not_type else' g h = refl
-not_type unused g h = refl
 
 -- the type of drafted names is read, and they are listed
 module _ (P A : Parser) (T T₁ : List Entry) (ns : List Named) (f : Drafted a_name type P T ns A T₁) where
@@ -48,16 +37,6 @@ module _ (P A : Parser) (T T₁ : List Entry) (ns : List Named) (f : Drafted a_n
   pub declared : {X : Type 0} (B C : Parser) (T₂ : List Entry) (y : SimpleType) (r : Result X Refusal) → Read A (ty y) B → T₂ ≡ retyped y P.count (B.count - P.count) T₁ → Expected Semicolon B C r → Passes (λ L. a_name [] ∷ L) (λ L. decls ∷ L) P T C T₂ r
   declared B C T₂ y (Ok u) a e x = λ L m. chain (typing B T₂ y a e L m) (reads_on x (λ s. refl) (shallow m) refl)
   declared B C T₂ y (Err w) a e x = λ L m. chain_stop (typing B T₂ y a e L m) (misses_mark Semicolon B x (λ s. refl) (shallow m))
-
-  no_type : {L : List Sym} {w : Refusal} → Untyped A w → marks L ≡ 0 → (c : ℕ) (U : List Entry) → Stops (type ns ∷ L) [] c U (ahead A) w
-  no_type {L} (another h i) m c U = refused_here A (λ s. not_type (next A) (λ y. go (is Semicolon ∷ decls ∷ L) (declares list (typed y ns) s)) h) i
-  no_type {L} {w} (cut y b) m c U = cuts_off A (ty y) w (is Semicolon ∷ decls ∷ L) (λ s. declares list (typed y ns) s) b (λ s. refl) (shallow m) refl
-
-  pub untyped : (C : Parser) (T₂ : List Entry) (w : Refusal) → Untyped A w → Passes {A = Unit {0}} (λ L. a_name [] ∷ L) (λ L. decls ∷ L) P T C T₂ (Err w)
-  untyped C T₂ w x = λ L m. record { stops = λ V was es h. f.reads [] L m (listing V es) ∙ (no_type x m (length es) (laid es was)).stops V was es (refl, refl) }
-
-pub names_wrong : (P A C : Parser) (T T₁ T₂ : List Entry) (w : Refusal) → Drafts {A = Unit {0}} a_name type P T A T₁ (Err w) → Passes {A = Unit {0}} (λ L. a_name [] ∷ L) (λ L. decls ∷ L) P T C T₂ (Err w)
-names_wrong P A C T T₁ T₂ w x = λ L m. record { stops = λ V was es h. x [] L m (listing V es) }
 
 -- begin, where nothing else that may stand there does
 not_begin : (t : Tok) (a : Move Listing) → is_begin t ≡ false → at_begin list t a ≡ stuck
@@ -93,18 +72,12 @@ pub some_vars : {X : Type 0} (P A Q : Parser) (T T' : List Entry) (r : Result X 
 some_vars P A Q T T' (Ok u) h a x = λ L m. chain (reads_on a (λ s. var P L s h) (shallow m) (mark_few Var (next P) h)) (x L m)
 some_vars P A Q T T' (Err w) h a x = λ L m. chain_stop (reads_on a (λ s. var P L s h) (shallow m) (mark_few Var (next P) h)) (x L m)
 
-pub vars_broken : (P Q : Parser) (T T' : List Entry) (w : Refusal) → is_mark Var (next P) ≡ true → Broken P (next P) w → Passes {A = Unit {0}} (λ L. vars ∷ L) body P T Q T' (Err w)
-vars_broken P Q T T' w h x = λ L m. cuts_off P (next P) w (a_name [] ∷ L) (λ s. s) x (λ s. var P L s h) (shallow m) (mark_few Var (next P) h)
-
 -- {declaration}: what the loop keeps
 pub record Declaring (P : Parser) (T : List Entry) (Q : Parser) (T' : List Entry) : Type 0 where
   pub ready : Ready Q
   pub fewer : unread Q ≤ unread P
   pub room : Q.count + 2 * unread Q ≤ P.count + 2 * unread P
   pub is : (L : List Sym) → marks L ≡ 0 → Goes (decls ∷ L) [] P.count T (ahead P) (decls ∷ L) [] Q.count T' (ahead Q)
-
-pub declaring : (P : Parser) (T : List Entry) → Ready P → Declaring P T P T
-declaring P T h = record { ready = h; fewer = omega arith; room = omega arith; is = λ L m. moves (λ s. refl) }
 
 one_more : (L : List Sym) (s : Listing) (t : Tok) (p : ℕ) → is_name t ≡ true → step list (decls ∷ L) s t p ≡ step list (a_name [] ∷ L) s t p
 one_more L s (name n) p h = refl

@@ -4,10 +4,8 @@ use Rattle.std.proofs.lemmas.List.{append-nil, append_assoc, length-take}
 use Rattle.tosca.specs.declared.operators.SimpleType.{SimpleType}
 use Rattle.tosca.specs.declared.operators.SimpleType.TheVariants.{Integer}
 use Rattle.tosca.specs.declared.table.Entry.{Entry}
-use Rattle.tosca.specs.declared.table.Node.{Node}
 use Rattle.tosca.specs.declared.table.Node.TheVariants.{Decl}
 use Rattle.tosca.specs.Table.{entry}
-use Rattle.grammar.specs.declared.symbols.Mark.{Mark as Symbol}
 use Rattle.grammar.specs.declared.symbols.Mark.TheVariants.{Comma, Colon}
 use Rattle.grammar.specs.Tokens.{Tok, name, mark}
 use Rattle.grammar.specs.Building.{Named, typed, declares}
@@ -17,11 +15,11 @@ use Rattle.grammar.specs.Limits.{few}
 use Rattle.lexer.specs.declared.token.Refusal.{Refusal}
 use Rattle.parser.specs.declared.parser.Parser.{Parser}
 use Rattle.parser.specs.Feeds.{Feed, ahead, next, unread, Ready}
-use Rattle.parser.specs.Advancing.{is_mark, Read, Broken, Expected, Listed}
+use Rattle.parser.specs.Advancing.{is_mark, Read, Expected, Listed}
 use Rattle.parser.specs.Parsing.{Holds, reading, refusal, Stops}
 use Rattle.declarations.specs.Declaring.{Used, Begun, Drafted, Drafts, drafts, retyped, retyped_entry}
 use Rattle.parser.proofs.Chains.{takes, holds_more}
-use Rattle.parser.proofs.CommandSteps.{is_mark_lem, mark_few, not_mark, cuts_off, misses}
+use Rattle.parser.proofs.CommandSteps.{is_mark_lem, mark_few, not_mark, misses}
 
 drafts_append : (y : SimpleType) (ns ms : List Named) → drafts y (ns ++ ms) ≡ drafts y ns ++ drafts y ms
 drafts_append y [] ms = refl
@@ -82,23 +80,9 @@ one_name P B Q T T' x r u h a l =
       },
     )
 
-pub less_named : {X : Type 0} (P B Q : Parser) (t : Tok) (T T' : List Entry) (n : Node) (place r : ℕ) (u : X) → Ready P → Read P t B → Listed B T n place r Q T' → Used P Q (Ok u)
-less_named P B Q t T T' n place r u h a l =
-    let same : unread Q ≡ unread B = ap (λ f. length f.tokens) l.same in
-    (l.ready a.ready (omega (arith, same, l.count, a.one, a.count, h.room)), omega (arith, same, a.one), omega (arith, same, l.count, a.one, a.count))
-
--- tokens that are used up, one after another
-pub used_mark : {X : Type 0} (m : Symbol) (P Q : Parser) (r : Result X Refusal) → Expected m P Q r → Used P Q r
-used_mark m P Q (Ok u) a = (a.ready, omega (arith, a.one), omega (arith, a.one, a.count))
-used_mark m P Q (Err w) a = tt
-
 pub used_begin : {X : Type 0} (P Q : Parser) (r : Result X Refusal) → Begun P Q r → Used P Q r
 used_begin P Q (Ok u) a = (a.ready, omega (arith, a.one), omega (arith, a.one, a.count))
 used_begin P Q (Err w) a = tt
-
-pub used_after : {X : Type 0} (P A Q : Parser) (t : Tok) (r : Result X Refusal) → Read P t A → Used A Q r → Used P Q r
-used_after P A Q t (Ok u) a l = (l.0, omega (arith, a.one, l.1), omega (arith, a.one, a.count, l.2))
-used_after P A Q t (Err w) a l = tt
 
 pub used_both : {X Y : Type 0} (O P Q R : Parser) (u : Y) (r : Result X Refusal) → Used {A = Y} O P (Ok u) → unread Q ≤ unread P → Q.count + 2 * unread Q ≤ P.count + 2 * unread P → Used Q R r → Used O R r
 used_both O P Q R u (Ok v) k a b l = (l.0, omega (arith, k.1, a, l.1), omega (arith, k.2, b, l.2))
@@ -128,9 +112,6 @@ next_name P Q B C T T₁ T₂ u k h a l x = record {
 module _ {A : Type 0} (O P Q : Parser) (S T T₁ : List Entry) (u : A) (f : Drafts a_name names O S P T (Ok u)) (k : Naming P T Q T₁) where
   so_far : Drafted a_name names O S (f.0 ++ k.is.0) Q T₁
   so_far = drafted_both f.1 k.is.1
-
-  pub comma_broken : (R : Parser) (T' : List Entry) (w : Refusal) → is_mark Comma (next Q) ≡ true → Broken Q (next Q) w → Drafts {A = A} a_name type O S R T' (Err w)
-  comma_broken R T' w h x = drafted_stop w so_far (λ ms L m. stops_any (names ms ∷ L) (λ c T. cuts_off Q (next Q) w (a_name ms ∷ L) (λ s. s) x (comma Q h ms L) (shallow m) (mark_few Comma (next Q) h)))
 
   pub name_wrong : (B R : Parser) (T₂ T' : List Entry) (w : Refusal) → is_mark Comma (next Q) ≡ true → Read Q (next Q) B → Drafts {A = A} a_name names B T₁ R T₂ (Err w) → Drafts {A = A} a_name type O S R T' (Err w)
   name_wrong B R T₂ T' w h a x = drafted_stop w so_far (drafted_stop w (no_names {J = names} {K = a_name} {T = T₁} (next Q) a (comma Q h) (λ ms L. refl) (mark_few Comma (next Q) h)) x)

@@ -1,13 +1,12 @@
 -- What reading one token does to what is ahead.
-use Rattle.std.proofs.Common.{◌≡◌, ℕ, zero, suc, ◌+◌, ◌*◌, ◌≤◌, true, false, cond, List, length, Some, None, Ok, Err, Result, sym, refl, ap, ◌∙◌, subst, arith, Bor}
-use borrow.Author.Tests.{clash}
+use Rattle.std.proofs.Common.{◌≡◌, ℕ, zero, suc, ◌+◌, ◌*◌, ◌≤◌, false, cond, List, length, Some, None, Ok, Err, sym, refl, ap, ◌∙◌, subst, arith, Bor}
 use Rattle.grammar.specs.Tokens.{at}
 use Rattle.grammar.specs.Tokens as g
 use Rattle.lexer.specs.declared.token.Token.TheVariants as t
 use Rattle.lexer.specs.declared.token.Question.TheVariants.{NameCount}
 use Rattle.lexer.specs.declared.token.Lexeme.{Lexeme}
 use Rattle.lexer.specs.declared.token.Refusal.{Refusal}
-use Rattle.lexer.specs.Lexemes.{Raw, name, number, other, meant, lex_meant, number_of, lex}
+use Rattle.lexer.specs.Lexemes.{Raw, meant, lex_meant, number_of, lex}
 use Rattle.lexer.specs.Scan.{Scan, is_stop, follow, onward, scan, size, limit, keeps, limited}
 use Rattle.lexer.specs.Scan as s
 use Rattle.lexer.specs.Limited.{asked}
@@ -16,9 +15,9 @@ use Rattle.lexer.proofs.Scanning.{size_scan}
 use Rattle.parser.specs.declared.names.Names.{Names}
 use Rattle.parser.specs.declared.parser.Parser.{Parser}
 use Rattle.parser.specs.Feeds.{more, known_of, from, written, feed, ahead, next, unread, Ready}
-use Rattle.parser.specs.Advancing.{plain, refuses, broken, Read, Advanced, Nameless, many, cut, Named}
+use Rattle.parser.specs.Advancing.{refuses, broken, Read, Nameless, many, cut, Named}
 use Rattle.parser.specs.Numbering.{Numbered}
-use Rattle.parser.specs.Fetching.{Fetched, Fetches, Fresh, counting}
+use Rattle.parser.specs.Fetching.{Fetched, Fetches, Fresh}
 use Rattle.parser.proofs.StepScan.{limited_scan, Near, near_lex}
 
 -- the lexeme is the first of the bytes bs, which begin at place a
@@ -72,15 +71,6 @@ reads p q m h f k =
     let room : q.count + 2 * unread q ≤ 40000 = let r = h.room in omega arith in
     record { token = is; one = one; ready = record { near = f.near; within = f.within; kept = f.kept; room = room }; count = same }
 
-plain_learns : (k : Known) (r : Raw) → plain r ≡ true → learns k r ≡ k
-plain_learns k (name w) h = absurd (clash h)
-plain_learns k (number w) h = refl
-plain_learns k (other x) h = refl
-
-pub advanced : {A : Type 0} (p q : Parser) (r : Result A Refusal) → Ready p → plain (meant p.lookahead.token) ≡ true → Fetches p q r → Advanced p (next p) q r
-advanced p q (Ok u) h go f = reads p q p.names h f (sym (plain_learns (known_of p.names) (meant p.lookahead.token) go))
-advanced p q (Err e) h go f = ap (feed (known_of p.names)) f
-
 -- a name
 pub next_name : (p : Parser) (w : Bor (List ℕ)) (n : ℕ) → p.lookahead.token ≡ t.Name w → n ≡ numbered (known_of p.names) w.now → next p ≡ g.name n
 next_name p w n is e = ap (λ x. tok (known_of p.names) (meant x)) is ∙ ap g.name (sym e)
@@ -97,10 +87,6 @@ pub name_many : (p : Parser) (w : Bor (List ℕ)) (m : Names) (e : Refusal) → 
 name_many p w m e is k r =
     let x = limited (scan p.lookahead.end.place p.lookahead.end.rest.now) in
     many (numbered (known_of p.names) w.now) k.0 (feed (after (known_of p.names) w.now) x) (ap (λ u. feed (known_of p.names) (follow (meant u) p.lookahead.place x)) is) r
-
--- a node is counted
-pub counted : (p : Parser) (c : ℕ) → Ready p → c + (unread p + unread p) ≤ 40000 → Ready (counting p c)
-counted p c h room = record { near = h.near; within = h.within; kept = h.kept; room = omega arith }
 
 -- the first token
 limited_size : (x : Scan) → size (limited x) ≤ size x

@@ -61,16 +61,6 @@ question_back NodeCount = refl
 pub same_question : (x y : Question) → number_of x ≡ number_of y → x ≡ y
 same_question x y e = sym (question_back x) ∙ ap question_of e ∙ question_back y
 
-positive : (x : Question) → 1 ≤ number_of x
-positive TextLength = omega arith
-positive q.Token = omega arith
-positive NameLength = omega arith
-positive NumberSize = omega arith
-positive Grammar = omega arith
-positive Depth = omega arith
-positive NameCount = omega arith
-positive NodeCount = omega arith
-
 -- the tokens before the one in question are names of the first 64, if names
 then_few : (front : List Item) (x : Item) (n : ℕ) (ds : List Deep) → Then front x n ds → Few front
 then_few [] x n ds h = tt

@@ -1,6 +1,6 @@
 -- Gathering names: one token of a scan, and the word of each number.
 use Rattle.std.proofs.Common.{◌≡◌, ℕ, zero, suc, ◌<◌, ◌≤◌, Bool, true, false, cond, ltb, List, [], ◌∷◌, ◌++◌, length, Some, Ok, Err, sym, refl, ap, ◌∙◌, subst, arith, length-append, le-leb}
-use borrow.Author.Tests.{clash, lt-leb}
+use borrow.Author.Tests.{clash}
 use Rattle.std.specs.List.{slice_get}
 use Rattle.lexer.specs.declared.token.Lexeme.{Lexeme}
 use Rattle.lexer.specs.declared.token.Refusal.{Refusal}
@@ -53,9 +53,6 @@ module _ (at : ℕ) (bs : List ℕ) where
 
 pub within : (bs : List ℕ) → length bs ≤ 16384 → named bs ≡ gathered nothing (limited (scan 0 bs))
 within bs h = ap (λ b. cond b (gathered nothing (limited (scan 0 bs))) nothing) (le-leb (length bs) 16384 h)
-
-pub too_long : (bs : List ℕ) → 16384 < length bs → named bs ≡ nothing
-too_long bs h = ap (λ b. cond b (gathered nothing (limited (scan 0 bs))) nothing) (lt-leb (length bs) 16384 h)
 
 -- The word of each number
 

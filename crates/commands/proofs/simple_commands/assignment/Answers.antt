@@ -1,22 +1,16 @@
 use Rattle.std.proofs.lemmas.Result.{err_from_is_err_and}
-use Rattle.tosca.specs.declared.table.Node.TheVariants.{Assign}
-use Rattle.grammar.specs.declared.symbols.Mark.TheVariants.{Becomes}
-use Rattle.grammar.specs.Tokens.{name, mark}
-use Rattle.commands.proofs.CommandSimple.{less_assigned, assigned, assigned_wrong}
+use Rattle.commands.proofs.CommandSimple.{assigned, assigned_wrong}
 use Rattle.commands.proofs.simple_commands.assignment.Goals as goal
 
-pub returns-in_err-value : goal.returns-in_err-value
-returns-in_err-value c =
+pub returns-in_err-value-clause-is : goal.returns-in_err-value-clause-is
+returns-in_err-value-clause-is c =
     let x = err_from_is_err_and c.from_residual-in_err-value.result c.from_residual-in_err-value.ensures.1 in
     let n = c.in_ok-name.ensures in
-    rw (x.1, x.2) (record { less = tt; is = assigned_wrong c.args.depth.level c.args.parser.now c.name.new.self c.expect.new.self c.expr.new.parser c.expr.new.parser c.args.table.now c.expr.new.table c.expr.new.table c.in_ok-name.name c.in_err-value.field-0.0 c.args.depth.within n.0 n.1 c.in_ok-expect.ensures c.in_err-value.ensures.is })
+    rw (x.1, x.2) (assigned_wrong c.args.depth.level c.args.parser.now c.name.new.self c.expect.new.self c.expr.new.parser c.expr.new.parser c.args.table.now c.expr.new.table c.expr.new.table c.in_ok-name.name c.in_err-value.field-0.0 c.args.depth.within n.0 n.1 c.in_ok-expect.ensures c.in_err-value.ensures.is)
 
-pub returns : goal.returns
-returns c =
+pub returns-clause-is : goal.returns-clause-is
+returns-clause-is c =
     let n = c.in_ok-name.ensures in
     let b = c.in_ok-expect.ensures in
     let v = c.in_ok-value.ensures in
-    record {
-      less = less_assigned c.args.parser.now c.name.new.self c.expect.new.self c.expr.new.parser c.emit.new.self (name c.in_ok-name.name) (mark Becomes) c.expr.new.table c.emit.new.table (Assign c.in_ok-name.name c.in_ok-value.value) c.name.new.self.lookahead.place c.in_ok-value.value c.emit.result c.requires.0 n.1 b v.less c.emit.ensures;
-      is = assigned c.args.depth.level c.args.parser.now c.name.new.self c.expect.new.self c.expr.new.parser c.emit.new.self c.args.table.now c.expr.new.table c.emit.new.table c.in_ok-name.name c.in_ok-value.value c.emit.result c.args.depth.within n.0 n.1 b v.is c.emit.ensures;
-    }
+    assigned c.args.depth.level c.args.parser.now c.name.new.self c.expect.new.self c.expr.new.parser c.emit.new.self c.args.table.now c.expr.new.table c.emit.new.table c.in_ok-name.name c.in_ok-value.value c.emit.result c.args.depth.within n.0 n.1 b v.is c.emit.ensures

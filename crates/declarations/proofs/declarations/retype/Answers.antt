@@ -1,10 +1,7 @@
-use Rattle.std.proofs.Common.{set, sym, ap, arith}
+use Rattle.std.proofs.Common.{set, ap, arith}
 use Rattle.tosca.specs.Table.{blank}
-use Rattle.declarations.proofs.DeclarNames.{retyped_zero, retype_one, retype_ends}
+use Rattle.declarations.proofs.DeclarNames.{retype_one, retype_ends}
 use Rattle.declarations.proofs.declarations.retype.Goals as goal
-
-pub loop-entry-init : goal.loop-entry-init
-loop-entry-init c = sym (retyped_zero c.args.typ 0 _)
 
 pub loop-entry-preserved : goal.loop-entry-preserved
 loop-entry-preserved c = retype_one c.args.typ c.loop-entry.entry-index _ c.loop-entry.declared _ blank c.loop-entry.invariant (ap (λ e. set c.loop-entry.declared c.loop-entry.entry-index e) c.new.ensures)

@@ -1,13 +1,7 @@
-use Rattle.std.proofs.Common.{sym, ◌∙◌, arith}
+use Rattle.std.proofs.Common.{sym, ◌∙◌}
 use Rattle.parser.specs.Feeds.{known_of}
-use Rattle.reader.proofs.NamingSteps.{ends_refused, goes_on, ends_there, takes, within, too_long, spelled_as}
+use Rattle.reader.proofs.NamingSteps.{ends_refused, goes_on, ends_there, takes, within, spelled_as}
 use Rattle.reader.proofs.naming.names_of.Goals as goal
-
-pub returns-then-text-gt-MAX_TEXT : goal.returns-then-text-gt-MAX_TEXT
-returns-then-text-gt-MAX_TEXT c =
-    let bs = c.args.text.now in
-    let e = c.new-names.ensures.0 ∙ sym (too_long bs c.if-text-gt-MAX_TEXT.true) in
-    record { is = (e, omega arith); spelled = spelled_as bs (known_of c.new-names.result) e }
 
 pub returns-then-not-note : goal.returns-then-not-note
 returns-then-not-note c =

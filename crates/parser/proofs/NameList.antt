@@ -68,17 +68,16 @@ front_more : (ws : List (Bor (List ℕ))) (c : ℕ) (w : Bor (List ℕ)) → c <
 front_more ws c w h = let e = length_spellings ws in ap (take (c + 1)) (set_spellings ws c w) ∙ take_more_set (spellings ws) c (lowered w.now) (omega arith)
 
 -- the number of a name, and what is known after it
-pub is_old : (m : Names) (w : List ℕ) (i : ℕ) → m.titled ≡ true → m.count ≤ length m.words → i ≡ index (lowered w) (front m.words m.count) → i < m.count → Numbered m w m (Some i)
-is_old m w i t k e lt =
+pub is_old : (m : Names) (w : List ℕ) (i : ℕ) → m.count ≤ 64 → m.titled ≡ true → m.count ≤ length m.words → i ≡ index (lowered w) (front m.words m.count) → i < m.count → Numbered m w m (Some i)
+is_old m w i h t k e lt =
     let n = length_front m.words m.count k in
-    let h : m.count ≤ 64 = m.few in
-    rw t (e, omega (arith, h), ap (known true) (sym (noted_old (lowered w) (front m.words m.count) (omega arith))))
+    rw t (e, omega (arith, h), ap (known true) (sym (noted_old (lowered w) (front m.words m.count) (omega arith))), h)
 
-pub is_new : (m : Names) (w : Bor (List ℕ)) → m.titled ≡ true → length m.words ≡ 64 → m.count ≡ index (lowered w.now) (front m.words m.count) → (lt : m.count < 64) → Numbered m w.now (record { words = set m.words m.count w; count = m.count + 1; titled = m.titled; few = omega arith }) (Some m.count)
+pub is_new : (m : Names) (w : Bor (List ℕ)) → m.titled ≡ true → length m.words ≡ 64 → m.count ≡ index (lowered w.now) (front m.words m.count) → (lt : m.count < 64) → Numbered m w.now (record { words = set m.words m.count w; count = m.count + 1; titled = m.titled }) (Some m.count)
 is_new m w t k e lt =
     let n = length_front m.words m.count (omega arith) in
     let is : front (set m.words m.count w) (m.count + 1) ≡ noted (lowered w.now) (front m.words m.count) = front_more m.words m.count w (omega arith) ∙ sym (noted_new (lowered w.now) (front m.words m.count) (omega arith)) in
-    rw t (e, lt, ap (known true) is)
+    rw t (e, lt, ap (known true) is, omega arith)
 
 pub is_last : (m : Names) (w : List ℕ) → m.titled ≡ true → m.count ≡ 64 → m.count ≡ index (lowered w) (front m.words m.count) → Numbered m w m None
 is_last m w t k e = rw t (omega arith, refl)

@@ -62,14 +62,15 @@ abbrev pub naming : Parser → Names → Parser
 naming p m = record { lookahead = p.lookahead; names = m; count = p.count }
 
 -- the next token of p is read, and what it makes of the names is m
-reads : (p q : Parser) (m : Names) → Ready p → Fetched (naming p m) q → known_of m ≡ learns (known_of p.names) (meant p.lookahead.token) → Read p (next p) q
-reads p q m h f k =
+reads : (p q : Parser) (m : Names) → Ready p → Fetched (naming p m) q → m.count ≤ 64 → known_of m ≡ learns (known_of p.names) (meant p.lookahead.token) → Read p (next p) q
+reads p q m h f few k =
     let learnt : learns (known_of p.names) (meant p.lookahead.token) ≡ known_of q.names = sym (ap known_of f.names ∙ k) in
     let is : ahead p ≡ more (at (next p) p.lookahead.place) (ahead q) = ap (feed (known_of p.names)) f.tokens ∙ ap (λ x. more (at (next p) p.lookahead.place) (feed x (written q))) learnt in
     let one : unread p ≡ suc (unread q) = ap (λ x. length x.tokens) is in
     let same : q.count ≡ p.count = f.count in
     let room : q.count + 2 * unread q ≤ 40000 = let r = h.room in omega arith in
-    record { token = is; one = one; ready = record { near = f.near; within = f.within; kept = f.kept; room = room }; count = same }
+    let named : q.names.count ≡ m.count = ap (λ x. x.count) f.names in
+    record { token = is; one = one; ready = record { near = f.near; within = f.within; few = omega arith; kept = f.kept; room = room }; count = same }
 
 -- a name
 pub next_name : (p : Parser) (w : Bor (List ℕ)) (n : ℕ) → p.lookahead.token ≡ t.Name w → n ≡ numbered (known_of p.names) w.now → next p ≡ g.name n
@@ -78,7 +79,7 @@ next_name p w n is e = ap (λ x. tok (known_of p.names) (meant x)) is ∙ ap g.n
 pub named : (p q : Parser) (w : Bor (List ℕ)) (m : Names) (n : ℕ) → Ready p → p.lookahead.token ≡ t.Name w → Numbered p.names w.now m (Some n) → Fetched (naming p m) q → Named p q (Ok n)
 named p q w m n h is k f =
     let known = k.2 ∙ ap (λ x. learns (known_of p.names) (meant x)) (sym is) in
-    (k.1, subst (λ x. Read p x q) (next_name p w n is k.0) (reads p q m h f known))
+    (k.1, subst (λ x. Read p x q) (next_name p w n is k.0) (reads p q m h f k.3 known))
 
 pub name_cut : (p : Parser) (w : Bor (List ℕ)) (m : Names) (n : ℕ) (e : Refusal) → p.lookahead.token ≡ t.Name w → Numbered p.names w.now m (Some n) → Fetches {A = Unit {0}} (naming p m) (naming p m) (Err e) → Nameless p e
 name_cut p w m n e is k f = cut n k.1 (ap (feed (known_of p.names)) f ∙ ap (λ x. more (at x p.lookahead.place) (broken e)) (next_name p w n is k.0))
@@ -103,8 +104,8 @@ items_size k (s.more r q x) = ap suc (items_size (learns k r) x)
 items_size k (s.broken n q) = refl
 items_size k s.over = refl
 
-pub begun : (text : List ℕ) (p : Parser) → length text ≤ 16384 → known_of p.names ≡ nothing → p.count ≡ 0 → lex_meant (Ok p.lookahead) ≡ asked (lex 0 text) → Fresh text p
-begun text p h k none e =
+pub begun : (text : List ℕ) (p : Parser) → length text ≤ 16384 → known_of p.names ≡ nothing → p.names.count ≡ 0 → p.count ≡ 0 → lex_meant (Ok p.lookahead) ≡ asked (lex 0 text) → Fresh text p
+begun text p h k few none e =
     let f = first 0 text p.lookahead e in
     let is : ahead p ≡ feed nothing (limited (scan 0 text)) = ap (λ x. feed x (written p)) k ∙ ap (feed nothing) (sym f.tokens) in
     let size₁ : unread p ≡ size (limited (scan 0 text)) = ap (λ x. length x.tokens) is ∙ items_size nothing (limited (scan 0 text)) in
@@ -112,7 +113,7 @@ begun text p h k none e =
     let size₃ = size_scan 0 text in
     let near' = f.near in
     let within' = f.within in
-    record { tokens = is; ready = record { near = omega arith; within = omega arith; kept = f.kept; room = omega arith }; count = none; names = k }
+    record { tokens = is; ready = record { near = omega arith; within = omega arith; few = omega arith; kept = f.kept; room = omega arith }; count = none; names = k }
 
 pub not_begun : (text : List ℕ) (e : Refusal) → lex_meant (Err e) ≡ asked (lex 0 text) → feed nothing (limited (scan 0 text)) ≡ broken e
 not_begun text e h = ap (feed nothing) (breaks 0 text e h)

@@ -48,10 +48,11 @@ next p = tok (known_of p.names) (meant p.lookahead.token)
 abbrev pub unread : Parser → ℕ
 unread p = length (ahead p).tokens
 
--- places stay small, the next token has kept the limits of its length, and two nodes for each unread token can be counted: 40,000 is above twice the tokens of a text of 16,384 bytes
+-- places stay small, at most 64 names are known, the next token has kept the limits of its length, and two nodes for each unread token can be counted: 40,000 is above twice the tokens of a text of 16,384 bytes
 -- no part is a ghost field of the parser: `emit` lists a node where there may be no room, so every function would ask for Ready still
 pub record Ready (p : Parser) : Type 0 where
   pub near : p.lookahead.place ≤ 16384
   pub within : p.lookahead.end.place + length p.lookahead.end.rest.now ≤ 16384
+  pub few : p.names.count ≤ 64
   pub kept : limit (meant p.lookahead.token) ≡ 0
   pub room : p.count + 2 * unread p ≤ 40000

@@ -9,7 +9,7 @@ use Rattle.parser.specs.Feeds.{known_of}
 
 -- the word w gets a number below 64 and is known from then on; or its number would be above, and nothing changes
 abbrev pub Numbered : Names → List ℕ → Names → Option ℕ → Type 0
-Numbered m w n (Some i) = (i ≡ numbered (known_of m) w) × (i < 64) × (known_of n ≡ after (known_of m) w)
+Numbered m w n (Some i) = (i ≡ numbered (known_of m) w) × (i < 64) × (known_of n ≡ after (known_of m) w) × (n.count ≤ 64)
 Numbered m w n None = (64 ≤ numbered (known_of m) w) × (n ≡ m)
 
 -- a name is this word, whatever the size of its letters

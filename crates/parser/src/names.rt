@@ -1,5 +1,9 @@
 // The names of a text after the program's, in the order of their numbers.
-ghost use Rattle.std.specs.Prelude.{◌≤◌};
+ghost use Rattle.std.specs.Prelude.{◌≡◌, ◌≤◌, take};
+ghost use Rattle.std.specs.List.{slice_get, position};
+ghost use Rattle.lexer.specs.Names.{nothing};
+ghost use Rattle.parser.specs.Feeds.{known_of};
+ghost use Rattle.parser.specs.Numbering.{Numbered, is_word, spelled};
 
 use lexer::words::same_word;
 
@@ -12,16 +16,9 @@ pub struct Names<'a> {
     pub words: [&'a [u8]; 64],
     pub count: usize,
     pub titled: bool,
-    pub ghost few: { count ≤ 64 },
 }
 
 impl<'a> Names<'a> {
-    ghost use Rattle.std.specs.Prelude.{◌≡◌, take};
-    ghost use Rattle.std.specs.List.{slice_get, position};
-    ghost use Rattle.lexer.specs.Names.{nothing};
-    ghost use Rattle.parser.specs.Feeds.{known_of};
-    ghost use Rattle.parser.specs.Numbering.{Numbered, is_word, spelled};
-
     // No name is read, the program's neither.
     pub fn new() -> Names<'a>
         ensures { (known_of result ≡ nothing) × (result.count ≡ 0) }
@@ -37,7 +34,7 @@ impl<'a> Names<'a> {
     fn known(&self) -> &[&'a [u8]]
         ensures { result.now ≡ take self.now.count self.now.words }
     {
-        &self.words[..self.count]
+        &self.words[..self.count.min(MAX_NAMES)]
     }
 
     // Where the word stands first.
@@ -49,6 +46,7 @@ impl<'a> Names<'a> {
 
     // The number of a name that is read. The program's is not counted, and gets 0; a new name gets the next number, if there is one.
     pub fn number(&mut self, word: &'a [u8]) -> Option<u16>
+        requires { self.old.count ≤ 64 }
         ensures { Numbered self.old word.now self.new result }
     {
         if !self.titled {

@@ -31,11 +31,11 @@ module _ (at : ℕ) (bs : List ℕ) where
     pub goes_on : Noted m l.token n true → gathered (known_of m) (limited (scan at bs)) ≡ gathered (known_of n) (limited (scan l.end.place l.end.rest.now))
     goes_on h =
         ap (gathered (known_of m)) begins
-        ∙ ap (λ b. gathered (known_of m) (more (meant l.token) l.place (cond b over (limited (scan l.end.place l.end.rest.now))))) h.0
-        ∙ h.1 l.place (limited (scan l.end.place l.end.rest.now))
+        ∙ ap (λ b. gathered (known_of m) (more (meant l.token) l.place (cond b over (limited (scan l.end.place l.end.rest.now))))) h.1
+        ∙ h.2 l.place (limited (scan l.end.place l.end.rest.now))
 
     pub ends_there : Noted m l.token n false → gathered (known_of m) (limited (scan at bs)) ≡ known_of n
-    ends_there h = ap (gathered (known_of m)) begins ∙ h l.place (limited (scan l.end.place l.end.rest.now))
+    ends_there h = ap (gathered (known_of m)) begins ∙ h.1 l.place (limited (scan l.end.place l.end.rest.now))
 
     by_asked : (x : Lexed) → lex at bs ≡ x → lex_meant (Ok l) ≡ asked x → is_stop (meant l.token) ≡ false → length l.end.rest.now < length bs
     by_asked (none a q) k h go = absurd (cc)
@@ -49,7 +49,7 @@ module _ (at : ℕ) (bs : List ℕ) where
         by_limit (suc i) f = absurd (cc)
 
     pub takes : Noted m l.token n true → length l.end.rest.now < length bs
-    takes h = by_asked (lex at bs) refl e h.0
+    takes h = by_asked (lex at bs) refl e h.1
 
 pub within : (bs : List ℕ) → length bs ≤ 16384 → named bs ≡ gathered nothing (limited (scan 0 bs))
 within bs h = ap (λ b. cond b (gathered nothing (limited (scan 0 bs))) nothing) (le-leb (length bs) 16384 h)

@@ -24,8 +24,8 @@ named bs = cond (nat_le (length bs) 16384) (gathered nothing (limited (scan 0 bs
 
 -- the names m become n by the token t, and there may be more tokens; or n is all that is gathered
 abbrev pub Noted : Names → Token → Names → Bool → Type 0
-Noted m t n true = (is_stop (meant t) ≡ false) × ((p : ℕ) (s : Scan) → gathered (known_of m) (more (meant t) p s) ≡ gathered (known_of n) s)
-Noted m t n false = (p : ℕ) (s : Scan) → gathered (known_of m) (follow (meant t) p s) ≡ known_of n
+Noted m t n true = (n.count ≤ 64) × (is_stop (meant t) ≡ false) × ((p : ℕ) (s : Scan) → gathered (known_of m) (more (meant t) p s) ≡ gathered (known_of n) s)
+Noted m t n false = (n.count ≤ 64) × ((p : ℕ) (s : Scan) → gathered (known_of m) (follow (meant t) p s) ≡ known_of n)
 
 -- where all names have numbers below 64, the number of each after the program's is its word's place in the list
 abbrev pub Spelled : List ℕ → List (List ℕ) → Type 0

@@ -11,6 +11,7 @@ use parser::names::Names;
 
 // Notes the name that a token is. False at the end, and where the name would be one too many.
 fn note<'a>(names: &mut Names<'a>, token: Token<'a>) -> bool
+    requires { names.old.count ≤ 64 }
     ensures { Noted names.old token.entry names.new result }
 {
     match token {

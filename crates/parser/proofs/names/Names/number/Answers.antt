@@ -11,7 +11,7 @@ pub returns-in-Some : goal.returns-in-Some
 returns-in-Some c =
     let m = c.args.self.now in
     let i = found c.args.word.now m.words m.count c.in-Some.n (omega arith) (sym c.in-Some.is ∙ c.position.ensures) in
-    is_old m c.args.word.now c.in-Some.n c.if-not-self.false (omega arith) i.0 i.1
+    is_old m c.args.word.now c.in-Some.n c.requires c.if-not-self.false (omega arith) i.0 i.1
 
 pub returns-then-n-eq-MAX_NAMES : goal.returns-then-n-eq-MAX_NAMES
 returns-then-n-eq-MAX_NAMES c =

@@ -4,7 +4,7 @@ use Rattle.parser.proofs.StepToken.{begun, not_begun}
 use Rattle.parser.proofs.parser.Parser.new.Goals as goal
 
 pub returns : goal.returns
-returns c = begun c.args.text.now (record { lookahead = c.in_ok-next_limited.field-0; names = c.new.result; count = 0 }) c.requires c.new.ensures.0 refl c.in_ok-next_limited.ensures
+returns c = begun c.args.text.now (record { lookahead = c.in_ok-next_limited.field-0; names = c.new.result; count = 0 }) c.requires c.new.ensures.0 c.new.ensures.1 refl c.in_ok-next_limited.ensures
 
 pub returns-in_err-next_limited : goal.returns-in_err-next_limited
 returns-in_err-next_limited c =

@@ -130,8 +130,7 @@ module _ {S : Type 0} (act : Act → S → S) (e : Ending) (n p : ℕ) where
   -- nothing is refused after the end of the text
   not_after : (K : List Sym) (s : S) (ts : List Item) → K ≡ [] → (ts ≡ []) × (e ≡ over) → run act (limits e) K s ts ≡ refused n p → ⊥
   not_after K s ts k l h =
-      let a : accepted s ≡ refused n p = sym (ap (λ f. run act (limits f) K s ts) l.1 ∙ ap (λ L. run act (limits over) L s ts) k ∙ ap (λ v. run act (limits over) [] s v) l.0) ∙ h in
-      cc
+      let x = l.0 in let y = l.1 in cc
 
   module _ (t : Tok) (q : ℕ) (ts : List Item) (K : List Sym) (s : S) (c : Closing K) where
     here : Halt act e K s (at t q ∷ ts) n p → Halted act e n p K s (at t q ∷ ts)

@@ -81,7 +81,7 @@ none_read e none = record { all = λ x r. absurd (none x r); only = λ x h. absu
 
 pub set_read : (e : Expr ℕ) → SetRead (fold variables e) e
 unfolding fold
-set_read (const n v) = none_read (const n v) (λ x r. let p = r.1 in cc)
+set_read (const n v) = none_read (const n v) (λ x r. cc)
 set_read (var n y) =
     record {
       all = λ x r. let p = r.1 in let q : y ≡ x = cc in holds_single y x ∙ eq-eqb y x q;

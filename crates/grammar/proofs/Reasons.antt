@@ -89,7 +89,7 @@ module _ {S : Type 0} (act : Act → S → S) where
 
   -- no text goes on with a token that is not read
   ends_there : {J : List Sym} {s r : S} {front : List Item} (t : Tok) (p : ℕ) → Passed act (text ∷ []) s front J r → step act J r t p ≡ stuck → (us : List Item) (u : tree.Program ℕ) → Text (front ++ (at t p ∷ us)) u → ⊥
-  ends_there {J} {s} {r} {front} t p d st us u x =
+  ends_there {s} {front} t p d st us u x =
       let y = goes_on d (at t p ∷ us) in let z = text_accepted act s (front ++ (at t p ∷ us)) u x in cc
 
   -- the depths of the front, and of the token after it, in every text that begins so

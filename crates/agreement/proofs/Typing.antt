@@ -199,6 +199,4 @@ source_ends p c g = pick (exec (type_in p.decls) g p.body initial) (sound_exec p
     pick stuck h = absurd h
 
 pub never_stuck : NeverStuck
-never_stuck p c g e =
-    let s = source_ends p c g in
-    cc
+never_stuck p c g e = let s = source_ends p c g in cc

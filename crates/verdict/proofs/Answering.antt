@@ -35,7 +35,7 @@ number_some NodeCount e = omega arith
 pub refused_by : (o : Outcome Listing) (q : Question) (p : ℕ) → no (number_of q) p ≡ answer o → o ≡ refused (number_of q) p
 refused_by (accepted s) q p e = cc
 refused_by (refused n m) q p e = cc
-refused_by unended q p e = let z : number_of q ≡ 0 = cc in absurd (number_some q z)
+refused_by unended q p e = absurd (number_some q cc)
 
 accepted_by : (o : Outcome Listing) (n : ℕ) → count n ≡ answer o → (s : Listing) × (o ≡ accepted s) × (length s.entries ≡ n)
 accepted_by (accepted s) n e = (s, refl, cc)

@@ -50,7 +50,7 @@ runs_as p g start e o (halts {t = t} {s = s} c z cells n r w h) q =
       runs = record { last = beside g.readings c z cells s.effects; reach = r; ends = w; stopped = n };
       agrees = h;
     })
-runs_as p g start e o unsaid_cmd q = let k : ◌≡◌ {A = ℕ} 0 1 = cc in absurd (omega arith)
+runs_as p g start e o unsaid_cmd q = cc
 
 start_agrees : (start : List ℤ) → length start ≡ 96 → Agrees start initial.variables start
 start_agrees start long = record { long = long; holds = λ x h. refl }

@@ -46,8 +46,8 @@ agrees_set {s} {start} {cs} x v lt h = record { long = length-set cs x (number v
         get_or-set_other cs x y (number v) (pos 0) (λ e. ne (sym e)) ∙ h.holds y ly ∙ ap (λ o. cell_of o (get_or start y (pos 0))) (sym (updated_other s x y v ne))
 
 pub drop_next : (R : List ℤ) (u : ℕ) (z : ℤ) (rs : List ℤ) → drop u R ≡ z ∷ rs → drop (suc u) R ≡ rs
-drop_next [] zero z rs e = let k : ◌≡◌ {A = ℕ} 0 1 = cc in absurd (omega arith)
-drop_next [] (suc u) z rs e = let k : ◌≡◌ {A = ℕ} 0 1 = cc in absurd (omega arith)
+drop_next [] zero z rs e = cc
+drop_next [] (suc u) z rs e = cc
 drop_next (x ∷ R) zero z rs e = cc
 drop_next (x ∷ R) (suc u) z rs e = drop_next R u z rs e
 

@@ -1,5 +1,5 @@
 -- What holds of every name in a command holds in its parts.
-use Rattle.std.proofs.Common.{◌≡◌, ℕ, true, List, Some, None, Option, refl, inl, inr, arith}
+use Rattle.std.proofs.Common.{◌≡◌, ℕ, true, List, Some, None, Option, refl, inl, inr}
 use Rattle.tosca.specs.declared.operators.SimpleType.{SimpleType}
 use Rattle.tosca.specs.Trees.{Expr, var, Cmd, assign, seq, choice, loop, input, Decl}
 use Rattle.tosca.specs.Types.{decl_of, declared_type, type_in}
@@ -39,7 +39,7 @@ module _ (P : ℕ → Type 0) where
 -- a declared name has a type
 has_type : (o : Option (Decl ℕ)) → is_declared o ≡ true → (y : SimpleType) × (declared_type o ≡ Some y)
 has_type (Some d) e = (d.type, refl)
-has_type None e = let k : ◌≡◌ {A = ℕ} 0 1 = cc in absurd (omega arith)
+has_type None e = cc
 
 pub declared_type_lem : (ds : List (Decl ℕ)) (x : ℕ) → Declares ds x → (y : SimpleType) × (type_in ds x ≡ Some y)
 declared_type_lem ds x d = has_type (decl_of ds x) (has_declared ds x d)

@@ -1,5 +1,5 @@
 -- What passes the check is typed, set and fits, as the laws of the code ask.
-use Rattle.std.proofs.Common.{◌≡◌, ℕ, ◌<◌, ◌≤◌, Bool, true, false, not, List, [], ◌∷◌, ◌++◌, refl, ap, inl, inr, arith}
+use Rattle.std.proofs.Common.{◌≡◌, ℕ, ◌<◌, ◌≤◌, Bool, true, false, not, List, [], ◌∷◌, ◌++◌, refl, ap, inl, inr}
 use Rattle.tosca.specs.Trees.{Expr, const, var, uny, bin, Cmd, skip, assign, seq, choice, loop, input, output, Program}
 use Rattle.tosca.specs.declared.table.Entry.{Entry}
 use Rattle.tosca.specs.Decode.{program_of}
@@ -56,15 +56,15 @@ fits_cmd (output n e) b f = fits_expr e (λ k y h. b y (k, inl h)) (f e (in_self
 
 left_none : (xs ys : List ℕ) → xs ++ ys ≡ [] → xs ≡ []
 left_none [] ys e = refl
-left_none (x ∷ xs) ys e = let k : ◌≡◌ {A = ℕ} 0 1 = cc in absurd (omega arith)
+left_none (x ∷ xs) ys e = cc
 
 right_none : (xs ys : List ℕ) → xs ++ ys ≡ [] → ys ≡ []
 right_none [] ys e = e
-right_none (x ∷ xs) ys e = let k : ◌≡◌ {A = ℕ} 0 1 = cc in absurd (omega arith)
+right_none (x ∷ xs) ys e = cc
 
 is_set : (n : ℕ) (b : Bool) → picked n (not b) ≡ [] → b ≡ true
 is_set n true e = refl
-is_set n false e = let k : ◌≡◌ {A = ℕ} 0 1 = cc in absurd (omega arith)
+is_set n false e = cc
 
 set_expr : (s : Vars) (e : Expr ℕ) → unset_in s e ≡ [] → ExprSet s e
 unfolding chosen_in

@@ -1,5 +1,5 @@
 -- Every list of calls is answered, and in one way.
-use Rattle.std.proofs.Common.{◌≡◌, ℕ, ◌+◌, Bool, true, false, ltb, List, [], ◌∷◌, ◌++◌, length, ℤ, Some, None, Ok, Err, Option, sym, refl, ap, ◌∙◌, subst, ap₂, arith}
+use Rattle.std.proofs.Common.{◌≡◌, ℕ, ◌+◌, Bool, true, false, ltb, List, [], ◌∷◌, ◌++◌, length, ℤ, Some, None, Ok, Err, Option, sym, refl, ap, ◌∙◌, subst, ap₂}
 use Rattle.aida.specs.declared.instructions.Coded.{Coded}
 use Rattle.aida.specs.declared.status.Status.TheVariants.{Ready}
 use Rattle.aida.specs.declared.calls.Refusal.{Refusal}
@@ -51,14 +51,14 @@ module _ (is : List Coded) (rl sl : ℕ) where
   one_response (no_room e) (feeds f) = true_false (sym f ∙ e)
   one_response (no_room e) (no_room f) = (refl, refl)
   one_response (takes e) (takes f) = (cc, refl)
-  one_response (takes e) (no_send f) = let k : ◌≡◌ {A = ℕ} 0 1 = cc in absurd (omega arith)
-  one_response (no_send e) (takes f) = let k : ◌≡◌ {A = ℕ} 0 1 = cc in absurd (omega arith)
+  one_response (takes e) (no_send f) = cc
+  one_response (no_send e) (takes f) = cc
   one_response (no_send e) (no_send f) = (refl, refl)
   one_response {m} (runs {grant = n} {b = b} e r) (runs {b = c} f q) =
       let same : b ≡ c = one_end is sl (m.turns + n) (with_status Ready m) b c r q in
       (ap (λ (z : Machine). Ok (Ran z.status z.turns)) same, same)
-  one_response (runs e r) (no_run f) = let k : ◌≡◌ {A = ℕ} 0 1 = cc in absurd (omega arith)
-  one_response (no_run e) (runs f q) = let k : ◌≡◌ {A = ℕ} 0 1 = cc in absurd (omega arith)
+  one_response (runs e r) (no_run f) = cc
+  one_response (no_run e) (runs f q) = cc
   one_response (no_run e) (no_run f) = (cc, refl)
 
   one_by_one : {m b c : Machine} {ks : List Call} {xs ys : List Reply} → RespondsAll is rl sl m ks xs b → RespondsAll is rl sl m ks ys c → (xs ≡ ys) × (b ≡ c)

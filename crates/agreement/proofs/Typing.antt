@@ -1,5 +1,5 @@
 -- A command that is well typed and reads only variables that are set is never stuck.
-use Rattle.std.proofs.Common.{◌≡◌, ℕ, zero, suc, ◌-◌, Bool, true, false, cond, ◌&&◌, ◌||◌, eqb, ltb, ◌⊎◌, List, [], ◌∷◌, length, drop, ℤ, Some, None, Ok, Err, Option, Result, sym, refl, ap, ◌∙◌, subst, inl, inr, arith, eq-eqb, ne_eqb}
+use Rattle.std.proofs.Common.{◌≡◌, ℕ, zero, suc, ◌-◌, Bool, true, false, cond, ◌&&◌, ◌||◌, eqb, ltb, ◌⊎◌, List, [], ◌∷◌, length, drop, ℤ, Some, None, Ok, Err, Option, Result, sym, refl, ap, ◌∙◌, subst, inl, inr, eq-eqb, ne_eqb}
 use Rattle.std.proofs.lemmas.Bool.{cases_eq}
 use Rattle.tosca.specs.declared.operators.SimpleType.{SimpleType}
 use Rattle.tosca.specs.declared.operators.SimpleType.TheVariants.{Integer, Boolean}
@@ -23,8 +23,8 @@ use Rattle.agreement.proofs.Truths.{both, either}
 
 same_type_lem : (t u : SimpleType) → t ≡ u → same_type t u ≡ true
 same_type_lem Integer Integer e = refl
-same_type_lem Integer Boolean e = let k : ◌≡◌ {A = ℕ} 0 1 = cc in absurd (omega arith)
-same_type_lem Boolean Integer e = let k : ◌≡◌ {A = ℕ} 0 1 = cc in absurd (omega arith)
+same_type_lem Integer Boolean e = cc
+same_type_lem Boolean Integer e = cc
 same_type_lem Boolean Boolean e = refl
 
 type_of : (t : SimpleType) (z : ℤ) → value_type (value_of t z) ≡ t
@@ -127,7 +127,7 @@ module _ (ds : List (Decl ℕ)) where
 
   sound_branch : (Q : Vars) (v : Value) (f k : State → Outcome) (t : State) → value_type v ≡ Boolean → Sound Q (f t) → Sound Q (k t) → Sound Q (branch v f k t)
   unfolding branch
-  sound_branch Q (Number z) f k t e a b = let n : ◌≡◌ {A = ℕ} 0 1 = cc in absurd (omega arith)
+  sound_branch Q (Number z) f k t e a b = cc
   sound_branch Q (Truth true) f k t e a b = a
   sound_branch Q (Truth false) f k t e a b = b
 
@@ -199,7 +199,4 @@ source_ends p c g = pick (exec (type_in p.decls) g p.body initial) (sound_exec p
     pick stuck h = absurd h
 
 pub never_stuck : NeverStuck
-never_stuck p c g e =
-    let s = source_ends p c g in
-    let k : ◌≡◌ {A = ℕ} 0 1 = cc in
-    omega arith
+never_stuck p c g e = let s = source_ends p c g in cc

@@ -12,7 +12,7 @@ abbrev Closed : ℕ → ℕ → ℕ → ℕ → List ℕ → Type 0
 Closed o p i n xs = (k : ℕ) × (n ≡ i + k) × (skip_in (inside o) p xs ≡ skip (p + suc k) (drop (suc k) xs))
 
 closed_from : (o p i n : ℕ) (xs : List ℕ) → Some n ≡ position_from closes i xs → Closed o p i n xs
-closed_from o p i n [] h = let z : ◌≡◌ {A = ℕ} 0 1 = cc in absurd (omega arith)
+closed_from o p i n [] h = cc
 closed_from o p i n (b ∷ bs) h = go (eqb b 125) refl h (closed_from o (p + 1) (i + 1) n bs)
   where
     go : (t : Bool) → eqb b 125 ≡ t → Some n ≡ cond t (Some i) (position_from closes (i + 1) bs) → (Some n ≡ position_from closes (i + 1) bs → Closed o (p + 1) (i + 1) n bs) → Closed o p i n (b ∷ bs)
@@ -34,7 +34,7 @@ endless_from o p i [] h = refl
 endless_from o p i (b ∷ bs) h = go (eqb b 125) refl h (endless_from o (p + 1) (i + 1) bs)
   where
     go : (t : Bool) → eqb b 125 ≡ t → None ≡ cond t (Some i) (position_from closes (i + 1) bs) → (None ≡ position_from closes (i + 1) bs → skip_in (inside o) (p + 1) bs ≡ unclosed o) → skip_in (inside o) p (b ∷ bs) ≡ unclosed o
-    go true e h f = let z : ◌≡◌ {A = ℕ} 0 1 = cc in absurd (omega arith)
+    go true e h f = cc
     go false e h f = rw e (f h)
 
 pub endless : (o p : ℕ) (xs : List ℕ) → None ≡ position closes xs → skip_in (inside o) p xs ≡ unclosed o

@@ -31,7 +31,7 @@ rest_of : {r s : Raw} {q o a b : ℕ} {cs ds : List ℕ} → lexeme r q a cs ≡
 rest_of {cs} {ds} h = cc
 
 none_lexeme : {X : Type 0} {n q o a : ℕ} {r : Raw} {cs : List ℕ} → none n q ≡ lexeme r o a cs → X
-none_lexeme h = let z : ◌≡◌ {A = ℕ} 0 1 = cc in absurd (omega arith)
+none_lexeme h = cc
 
 -- where ys follows, a token before it is read whole, and stays as it is where ws follows
 abbrev Stays : List ℕ → List ℕ → Lexed → Lexed → Type 0
@@ -301,7 +301,7 @@ leads (goes {a} {cs} h go d) = inr (a, cs, h, go, d)
 
 starts_some : (q : ℕ) (rs : List Piece) (s : Scan) → Starts q s → onto rs s ≡ over → ⊥
 starts_some q [] s h k = subst (Starts q) k h
-starts_some q (piece r p ∷ rs) s h k = let z : ◌≡◌ {A = ℕ} 0 1 = cc in omega arith
+starts_some q (piece r p ∷ rs) s h k = cc
 
 reach : (rs : List Piece) (p : ℕ) (bs : List ℕ) (q : ℕ) (s : Scan) → Starts q s → Scans p bs (onto rs s) → (b : ℕ) × (ds : List ℕ) × Reaches p bs rs b ds × Scans b ds s
 reach [] p bs q s h d = (p, bs, here, d)

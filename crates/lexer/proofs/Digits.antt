@@ -31,7 +31,7 @@ module _ (most n : ℕ) (xs : List ℕ) (i : ℕ) where
     where
       go : (l : Bool) → leb next most ≡ l → None ≡ cond l (Some next) None → onward most n (drop i xs) ≡ None
       go false q r = sym (digit_more h) ∙ too_large most _ (drop (i + 1) xs) (leb-false _ most q)
-      go true q r = let z : ◌≡◌ {A = ℕ} 0 1 = cc in absurd (omega arith)
+      go true q r = cc
 
   pub next_digit : (m : ℕ) → i < length xs → Some m ≡ longer most n (get_or xs i 0) → (onward most m (drop (i + 1) xs) ≡ onward most n (drop i xs)) × (m ≤ most)
   next_digit m h e = go (leb next most) refl e
@@ -41,7 +41,7 @@ module _ (most n : ℕ) (xs : List ℕ) (i : ℕ) where
           let v : next ≡ m = cc in
           let k : next ≤ most = leb-true _ most q in
           (ap (λ x. onward most x (drop (i + 1) xs)) (sym v) ∙ digit_more h, omega arith)
-      go false q r = let z : ◌≡◌ {A = ℕ} 0 1 = cc in absurd (omega arith)
+      go false q r = cc
 
 pub no_more : (most n : ℕ) (ds : List ℕ) → length ds ≡ 0 → n ≤ most → onward most n ds ≡ Some n
 no_more most n [] h k = rw (le-leb n most k)

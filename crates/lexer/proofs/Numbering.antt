@@ -158,7 +158,7 @@ written_onto (piece r p ∷ rs) s h = written_onto rs s h.1
 
 name_of : (k : Known) (r : Raw) (m : ℕ) → named r ≡ false → tok k r ≡ g.name m → (w : List ℕ) × (r ≡ name w) × (numbered k w ≡ m)
 name_of k (name w) m h e = let x : numbered k w ≡ m = cc in (w, refl, x)
-name_of k (number w) m h e = let z : ◌≡◌ {A = ℕ} 0 1 = cc in absurd (omega arith)
+name_of k (number w) m h e = cc
 name_of k (other t) m h e = absurd (clash (sym h ∙ ap (λ u. named (other u)) e))
 
 titled_of : (t : Bool) (ns : List (List ℕ)) (w : List ℕ) → 64 ≤ numbered (known t ns) w → t ≡ true

@@ -264,7 +264,7 @@ pub places : (p : ℕ) (bs : List ℕ) → Places p (p + length bs) (scan p bs)
 places p bs = places_of (p + length bs) refl (scans p bs)
 
 pub over_bad : {n q : ℕ} → limits.over ≡ bad n q → ⊥
-over_bad h = let z : ◌≡◌ {A = ℕ} 0 1 = cc in absurd (omega arith)
+over_bad h = cc
 
 bad_place : (p e : ℕ) (s : Scan) {n q : ℕ} → Places p e s → ends s ≡ bad n q → (n ≡ 2) × (p ≤ q) × (q < e)
 bad_place p e (more r o s) h k = let t = bad_place (suc o) e s h.2 k in (t.0, omega arith, t.2)

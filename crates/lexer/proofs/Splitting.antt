@@ -37,7 +37,7 @@ split (f ∷ front) tail k (broken n p) h = absurd (nil≢cons h)
 split (f ∷ front) tail k over h = absurd (nil≢cons h)
 
 apart : {X : Type 0} {n p q : ℕ} {r : Raw} {s : Scan} → broken n p ≡ more r q s → X
-apart h = let z : ◌≡◌ {A = ℕ} 0 1 = cc in absurd (omega arith)
+apart h = cc
 
 keeps_more : {r : Raw} {q : ℕ} {t : Scan} (n p : ℕ) (s : Scan) → keeps n p s ≡ more r q t → s ≡ more r q t
 keeps_more zero p s h = h
@@ -52,7 +52,7 @@ limited_onto (piece r p ∷ rs) (more o q s) t h =
     let u = limited_onto rs s t z in
     (u.0, ap₂ (λ a b. more a b s) x y ∙ ap (more r p) u.1, u.2)
 limited_onto (piece r p ∷ rs) (broken n q) t h = apart h
-limited_onto (piece r p ∷ rs) over t h = let z : ◌≡◌ {A = ℕ} 0 1 = cc in absurd (omega arith)
+limited_onto (piece r p ∷ rs) over t h = cc
 
 -- the next token, or that there is none
 pub next_more : (k : Known) (s : Scan) {t : Tok} {p : ℕ} {rest : List Item} → items k s ≡ at t p ∷ rest → (r : Raw) × (u : Scan) × (s ≡ more r p u) × (tok k r ≡ t)

@@ -1,5 +1,5 @@
 -- Declarations: each name once, and each name used. Assumes nothing.
-use Rattle.std.proofs.Common.{◌≡◌, ℕ, Bool, true, false, cond, not, eqb, ◌⊎◌, List, [], ◌∷◌, ◌++◌, Some, sym, refl, ap, ◌∙◌, subst, inl, inr, arith, eq-eqb, ne_eqb, eqb-true}
+use Rattle.std.proofs.Common.{◌≡◌, ℕ, Bool, true, false, cond, not, eqb, ◌⊎◌, List, [], ◌∷◌, ◌++◌, Some, sym, refl, ap, ◌∙◌, subst, inl, inr, eq-eqb, ne_eqb, eqb-true}
 use Rattle.std.proofs.lemmas.Bool.{false_from_ne_true, or_parts, or_cases, or_from, or_left, or_right, cond_both}
 use borrow.Author.Tests.{eqb-false, not-true, not-false, both_ways}
 use Rattle.tosca.specs.Trees.{Expr, const, var, uny, bin, Cmd, skip, assign, seq, choice, loop, input, output, Decl}
@@ -19,7 +19,7 @@ pub again_none : (xs : List ℕ) (ds : List (Decl ℕ)) → again xs ds ≡ [] �
 again_none xs [] h = (λ e i. absurd i, tt)
 again_none xs (d ∷ ds) h =
     cond_both (is_name d.name xs) (d.label ∷ again (d.name ∷ xs) ds) (again (d.name ∷ xs) ds) (λ ks. ks ≡ [] → Apart xs (d ∷ ds) × Distinct (d ∷ ds))
-    (λ q h. let k : ◌≡◌ {A = ℕ} 0 1 = cc in absurd (omega arith))
+    (λ q h. cc)
     (λ q h.
     let r = again_none (d.name ∷ xs) ds h in (
       λ e i. elim i [

@@ -33,14 +33,14 @@ number_some NameCount e = omega arith
 number_some NodeCount e = omega arith
 
 pub refused_by : (o : Outcome Listing) (q : Question) (p : ℕ) → no (number_of q) p ≡ answer o → o ≡ refused (number_of q) p
-refused_by (accepted s) q p e = let z : ◌≡◌ {A = ℕ} 0 1 = cc in absurd (omega arith)
+refused_by (accepted s) q p e = cc
 refused_by (refused n m) q p e = cc
-refused_by unended q p e = let z : number_of q ≡ 0 = cc in absurd (number_some q z)
+refused_by unended q p e = absurd (number_some q cc)
 
 accepted_by : (o : Outcome Listing) (n : ℕ) → count n ≡ answer o → (s : Listing) × (o ≡ accepted s) × (length s.entries ≡ n)
 accepted_by (accepted s) n e = (s, refl, cc)
-accepted_by (refused k p) n e = let z : ◌≡◌ {A = ℕ} 0 1 = cc in absurd (omega arith)
-accepted_by unended n e = let z : ◌≡◌ {A = ℕ} 0 1 = cc in absurd (omega arith)
+accepted_by (refused k p) n e = cc
+accepted_by unended n e = cc
 
 -- the draft of an accepted table T has the entries of its listing
 module _ (o : Outcome Listing) (s : Listing) (T nodes : List Entry) (n : ℕ) where

@@ -166,13 +166,13 @@ module _ (t : List Entry) (formed : is_formed t ≡ true) (n : ℕ) (lt : n < le
 
 some_by : {A : Type 0} (s : Sort) (v w a : A) → Some v ≡ if_expr s (Some w) None → v ≡ if_expr s w a
 some_by is_expr v w a e = cc
-some_by is_decl v w a e = let z : ◌≡◌ {A = ℕ} 0 1 = cc in absurd (omega arith)
-some_by is_cmd v w a e = let z : ◌≡◌ {A = ℕ} 0 1 = cc in absurd (omega arith)
-some_by is_program v w a e = let z : ◌≡◌ {A = ℕ} 0 1 = cc in absurd (omega arith)
-some_by is_none v w a e = let z : ◌≡◌ {A = ℕ} 0 1 = cc in absurd (omega arith)
+some_by is_decl v w a e = cc
+some_by is_cmd v w a e = cc
+some_by is_program v w a e = cc
+some_by is_none v w a e = cc
 
 none_by : {A : Type 0} (s : Sort) (w a : A) → None ≡ if_expr s (Some w) None → if_expr s w a ≡ a
-none_by is_expr w a e = let z : ◌≡◌ {A = ℕ} 0 1 = cc in absurd (omega arith)
+none_by is_expr w a e = cc
 none_by is_decl w a e = refl
 none_by is_cmd w a e = refl
 none_by is_program w a e = refl

@@ -81,7 +81,7 @@ none_read e none = record { all = λ x r. absurd (none x r); only = λ x h. absu
 
 pub set_read : (e : Expr ℕ) → SetRead (fold variables e) e
 unfolding fold
-set_read (const n v) = none_read (const n v) (λ x r. let p = r.1 in let z : ◌≡◌ {A = ℕ} 0 1 = cc in omega arith)
+set_read (const n v) = none_read (const n v) (λ x r. cc)
 set_read (var n y) =
     record {
       all = λ x r. let p = r.1 in let q : y ≡ x = cc in holds_single y x ∙ eq-eqb y x q;
@@ -89,13 +89,13 @@ set_read (var n y) =
     }
 set_read (uny n o e) =
     record {
-      all = λ x r. (set_read e).all x (r.0, ⊎_elim (λ p. let z : ◌≡◌ {A = ℕ} 0 1 = cc in absurd (omega arith)) (λ i. i) r.1);
+      all = λ x r. (set_read e).all x (r.0, ⊎_elim (λ p. cc) (λ i. i) r.1);
       only = λ x h. let r = (set_read e).only x h in (r.0, inr r.1);
     }
 set_read (bin n a o b) =
     record {
       all = λ x r. holds_or (fold variables a) (fold variables b) x ∙ ⊎_elim
-          (λ p. let z : ◌≡◌ {A = ℕ} 0 1 = cc in absurd (omega arith))
+          (λ p. cc)
           (⊎_elim (λ i. or_left (holds (fold variables a) x) (holds (fold variables b) x) ((set_read a).all x (r.0, i))) (λ i. or_right (holds (fold variables a) x) (holds (fold variables b) x) ((set_read b).all x (r.0, i))))
           r.1;
       only = λ x h. ⊎_elim

@@ -14,8 +14,7 @@ use std::fmt::{Display, Formatter};
 use std::io::{BufRead, BufReader, BufWriter, Write};
 use std::{fmt, io, mem};
 use tosca::table::{BLANK, Entry};
-use verdict::judging::judge;
-use verdict::rejection::Rejection;
+use verdict::editor::{Verdict, wisnoeur_verdict};
 
 // What is kept from line to line. The count is the caller's, and may be more than the table has.
 #[derive(Drop)]
@@ -40,7 +39,7 @@ enum Stage {
 enum Answer<'a> {
     Level(&'a str),
     New,
-    Verdict(Option<Rejection>),
+    Verdict(Verdict),
     Read(Result<usize, Refusal>),
     Raw,
     Table(&'a [Entry]),
@@ -65,6 +64,7 @@ pub fn run(rt: &HostRuntime, edition: Edition) -> io::Result<()> {
     let mut out = BufWriter::new(heap, rt.stdout())?;
     let mut session = Session::new(heap);
     let mut line = Vec::new(heap);
+    // a count that no input reaches, as every loop has to end
     for _ in 0..u64::MAX {
         // Whoever waits for the answers gets them before the next line is waited for.
         if input.buffer().is_empty() {
@@ -108,9 +108,15 @@ impl Session {
                 self.clear(0)?;
                 Ok(Answer::New)
             }
-            Ok(Request::Verdict(text)) => Ok(Answer::Verdict(judge(&text).err())),
-            Ok(Request::Read(cap, text)) => self.read(cap, &text),
-            Ok(Request::Raw(cap, count, entries)) => self.put(cap, count, entries),
+            Ok(Request::Verdict(text)) => Ok(Answer::Verdict(wisnoeur_verdict(&text))),
+            Ok(Request::Read { cap, text }) => self.read(cap, &text),
+            Ok(
+                Request::Raw {
+                    cap,
+                    count,
+                    entries,
+                },
+            ) => self.put(cap, count, entries),
             Ok(Request::Table) => Ok(Answer::Table(self.nodes())),
             Ok(Request::Open) => Ok(self.open()),
             Ok(Request::Check) => Ok(self.check()),
@@ -230,10 +236,7 @@ impl Display for Answer<'_> {
         match self {
             Answer::Level(level) => write!(f, "level {level}"),
             Answer::New => write!(f, "new"),
-            Answer::Verdict(None) => write!(f, "verdict 0 0"),
-            Answer::Verdict(Some(rejection)) => {
-                write!(f, "verdict {} {}", rejection.number(), rejection.place())
-            }
+            Answer::Verdict(verdict) => write!(f, "verdict {} {}", verdict.number, verdict.place),
             Answer::Read(Ok(count)) => write!(f, "read ok {count}"),
             Answer::Read(Err(refusal)) => {
                 write!(f, "read no {} {}", refusal.question.number(), refusal.place)

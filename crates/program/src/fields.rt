@@ -1,10 +1,10 @@
 // The fields of a code table that a line can hold: `kind,op,value,cell,target,node` for each entry.
-use crate::nodes::{SHORT, UNKNOWN, operator_code};
-use numerals::number::{integer, natural};
+use crate::nodes::{UNKNOWN, operator_code, short};
+use numerals::number::integer;
 
 // What may stand in a field. A question mark may stand in each.
 #[derive(Clone, Copy)]
-pub enum Field {
+enum Field {
     InstructionKind,
     Operator,
     // of 16 bits, as node numbers, cells and targets are
@@ -13,7 +13,7 @@ pub enum Field {
     Value,
 }
 
-pub const INSTRUCTION: [Field; 6] = [
+const INSTRUCTION: [Field; 6] = [
     Field::InstructionKind,
     Field::Operator,
     Field::Value,
@@ -30,7 +30,7 @@ impl Field {
         match self {
             Field::InstructionKind => is_instruction_kind(word),
             Field::Operator => operator_code(word).is_some(),
-            Field::Number => natural(word.as_bytes(), SHORT).is_some(),
+            Field::Number => short(word).is_some(),
             Field::Value => integer(word.as_bytes()).is_some(),
         }
     }
@@ -52,15 +52,15 @@ fn is_instruction_kind(word: &str) -> bool {
     )
 }
 
-// Whether the list's items have these fields; a list without items is a hyphen.
-pub fn is_list(list: &str, fields: &[Field]) -> bool {
-    list == "-" || list.split('|').all(|item| is_item(item, fields))
+// Whether the list's items are entries; a list without items is a hyphen.
+pub fn is_list(list: &str) -> bool {
+    list == "-" || list.split('|').all(is_item)
 }
 
-fn is_item(item: &str, fields: &[Field]) -> bool {
-    item.split(',').count() == fields.len()
+fn is_item(item: &str) -> bool {
+    item.split(',').count() == INSTRUCTION.len()
         && item
             .split(',')
-            .zip(fields.iter())
+            .zip(INSTRUCTION.iter())
             .all(|(word, field)| field.allows(word))
 }

@@ -6,9 +6,6 @@ use std::alloc::{AllocError, Global};
 use tosca::operators::{Binary, SimpleType, Unary, Value};
 use tosca::table::{Entry, Node};
 
-// The largest number of 16 bits.
-pub const SHORT: u32 = 65535;
-
 // Stands in a field for a code that is not known, or for nothing where the field does not count.
 pub const UNKNOWN: &str = "?";
 
@@ -25,17 +22,13 @@ pub fn entries(heap: Global, list: &str) -> Result<Vec<Entry>, RequestError> {
 
 fn entry(heap: Global, item: &str) -> Result<Entry, RequestError> {
     let words: Vec<&str> = item.split(',').collect(heap)?;
-    match words.as_slice() {
-        [kind, op, name, typ, value, first, second, third, place] => {
-            let numbers = [*name, *first, *second, *third, *place];
-            with_codes(kind, op, typ, value, numbers).ok_or(RequestError::Malformed)
-        }
-        _ => Err(RequestError::Malformed),
-    }
+    entry_of(words.as_slice()).ok_or(RequestError::Malformed)
 }
 
-fn with_codes(kind: &str, op: &str, typ: &str, value: &str, numbers: [&str; 5]) -> Option<Entry> {
-    let [name, first, second, third, place] = numbers;
+fn entry_of(words: &[&str]) -> Option<Entry> {
+    let [kind, op, name, typ, value, first, second, third, place] = words else {
+        return None;
+    };
     Some(Entry {
         kind: kind_code(kind)?,
         op: operator_code(op)?,
@@ -108,15 +101,20 @@ fn type_code(word: &str) -> Option<u8> {
 }
 
 fn number(word: &str) -> Option<u16> {
-    if word == UNKNOWN {
-        return Some(0);
+    match word {
+        UNKNOWN => Some(0),
+        _ => short(word),
     }
-    u16::try_from(natural(word.as_bytes(), SHORT)?).ok()
+}
+
+// A number of 16 bits.
+pub fn short(word: &str) -> Option<u16> {
+    u16::try_from(natural(word.as_bytes(), u16::MAX.into())?).ok()
 }
 
 fn signed(word: &str) -> Option<i32> {
-    if word == UNKNOWN {
-        return Some(0);
+    match word {
+        UNKNOWN => Some(0),
+        _ => integer(word.as_bytes()),
     }
-    integer(word.as_bytes())
 }

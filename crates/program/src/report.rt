@@ -4,8 +4,10 @@ use console::reason::Reason;
 use diagnostics::complaint::Complaint;
 use excerpts::excerpt::Excerpt;
 use excerpts::position::Position;
+use parser::names::Names;
 use reader::naming::names_of;
 use std::fmt::{Display, Formatter, Result, Write};
+use tosca::table::Node;
 use verdict::rejection::Rejection;
 
 #[derive(Clone, Copy)]
@@ -36,7 +38,7 @@ fn write_reason<W: Write>(f: &mut Formatter<W>, text: &[u8], rejection: Rejectio
         Rejection::Unsound(violation, entry) => {
             let node = entry.node();
             let names = names_of(text);
-            let name = node.and_then(name_of).and_then(|name| names.spelling(name));
+            let name = node.and_then(|node| spelling(&names, node));
             write!(
                 f,
                 "{}",
@@ -44,4 +46,9 @@ fn write_reason<W: Write>(f: &mut Formatter<W>, text: &[u8], rejection: Rejectio
             )
         }
     }
+}
+
+// The name that a node has, in one of its spellings.
+pub fn spelling<'a>(names: &Names<'a>, node: Node) -> Option<&'a [u8]> {
+    names.spelling(name_of(node)?)
 }

@@ -1,7 +1,7 @@
 // What a line of a batch asks for.
 use crate::edition::Edition;
-use crate::fields::{INSTRUCTION, is_list};
-use crate::nodes::{SHORT, entries};
+use crate::fields::is_list;
+use crate::nodes::{entries, short};
 use numerals::hex::decode;
 use numerals::number::{integer, natural};
 use std::alloc::{AllocError, Global};
@@ -12,10 +12,16 @@ pub enum Request<'a> {
     Level(&'a str),
     New,
     Verdict(Vec<u8>),
-    // with room for so many entries
-    Read(usize, Vec<u8>),
-    // with room for so many entries, and a count
-    Raw(usize, usize, Vec<Entry>),
+    // with room for `cap` entries
+    Read {
+        cap: usize,
+        text: Vec<u8>,
+    },
+    Raw {
+        cap: usize,
+        count: usize,
+        entries: Vec<Entry>,
+    },
     Table,
     Open,
     Check,
@@ -44,24 +50,30 @@ impl<'a> Request<'a> {
         line: &'a [u8],
         edition: Edition,
     ) -> Result<Request<'a>, RequestError> {
-        let request = Request::of(heap, line)?;
+        let request = Request::parse_any(heap, line)?;
         if edition == Edition::Reading && request.is_of_checking() {
             return Err(RequestError::Unsupported);
         }
         Ok(request)
     }
 
-    fn of(heap: Global, line: &'a [u8]) -> Result<Request<'a>, RequestError> {
+    // The request of a line in any edition.
+    fn parse_any(heap: Global, line: &'a [u8]) -> Result<Request<'a>, RequestError> {
         let line = std::str::from_utf8(line).map_err(|_| RequestError::Malformed)?;
         let words: Vec<&str> = line.split(' ').collect(heap)?;
         match words.as_slice() {
-            ["level", level] if is_short(level) => Ok(Request::Level(level)),
+            ["level", level] if short(level).is_some() => Ok(Request::Level(level)),
             ["new"] => Ok(Request::New),
             ["verdict", text] => Ok(Request::Verdict(bytes(heap, text)?)),
-            ["read", cap, text] => Ok(Request::Read(short(cap)?, bytes(heap, text)?)),
-            ["raw", cap, count, list] => {
-                Ok(Request::Raw(short(cap)?, short(count)?, entries(heap, list)?))
-            }
+            ["read", cap, text] => Ok(Request::Read {
+                cap: size(cap)?,
+                text: bytes(heap, text)?,
+            }),
+            ["raw", cap, count, list] => Ok(Request::Raw {
+                cap: size(cap)?,
+                count: size(count)?,
+                entries: entries(heap, list)?,
+            }),
             ["table"] => Ok(Request::Table),
             ["open"] => Ok(Request::Open),
             ["check"] => Ok(Request::Check),
@@ -73,7 +85,11 @@ impl<'a> Request<'a> {
     fn is_of_checking(&self) -> bool {
         matches!(
             self,
-            Request::Verdict(_) | Request::Raw(..) | Request::Open | Request::Check | Request::Pass
+            Request::Verdict(_)
+                | Request::Raw { .. }
+                | Request::Open
+                | Request::Check
+                | Request::Pass
         )
     }
 }
@@ -92,11 +108,11 @@ fn refused(words: &[&str]) -> RequestError {
     let is_call = match words {
         ["code" | "mount" | "stop" | "take" | "lists" | "cells"] => true,
         ["start", "ring" | "register"] => true,
-        ["translate", cap] => is_short(cap),
+        ["translate", cap] => short(cap).is_some(),
         ["feed", value] => integer(value.as_bytes()).is_some(),
         ["run", grant] => natural(grant.as_bytes(), u32::MAX).is_some(),
         ["rawcode", cap, count, list] => {
-            is_short(cap) && is_short(count) && is_list(list, &INSTRUCTION)
+            short(cap).is_some() && short(count).is_some() && is_list(list)
         }
         _ => false,
     };
@@ -107,12 +123,7 @@ fn refused(words: &[&str]) -> RequestError {
     }
 }
 
-fn is_short(word: &str) -> bool {
-    short(word).is_ok()
-}
-
-// A number of 16 bits.
-fn short(word: &str) -> Result<usize, RequestError> {
-    let number = natural(word.as_bytes(), SHORT).ok_or(RequestError::Malformed)?;
-    usize::try_from(number).map_err(|_| RequestError::Malformed)
+// A count of entries, of 16 bits.
+fn size(word: &str) -> Result<usize, RequestError> {
+    short(word).map(usize::from).ok_or(RequestError::Malformed)
 }

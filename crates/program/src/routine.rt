@@ -1,11 +1,11 @@
 // The commands on one routine in a file.
 use crate::failure::Failure;
-use crate::report::Report;
-use console::naming::{Named, name_of};
+use crate::report::{Report, spelling};
+use console::naming::Named;
 use excerpts::position::Position;
 use parser::names::Names;
 use reader::naming::names_of;
-use reader::reading;
+use reader::reading::{self, MAX_NODES, MAX_TEXT};
 use std::fs::File;
 use std::io;
 use std::io::{BufWriter, Read, Write};
@@ -14,28 +14,21 @@ use verdict::judging::judge;
 use verdict::rejection::Rejection;
 
 // One byte more than a routine may have, which is enough to refuse a text for its length.
-const ENOUGH: u64 = 16385;
-
-// The most nodes that a routine may have.
-const NODES: usize = 1024;
+const ENOUGH: u64 = MAX_TEXT as u64 + 1;
 
 // Says whether the routine in the file may be translated.
 pub fn check(rt: &HostRuntime, file: &str) -> Result<(), Failure> {
     let text = load(rt, file)?;
-    match judge(&text) {
-        Ok(nodes) => {
-            let names = names_of(&text).count;
-            println!(rt; "accepted: {nodes} nodes, {names} names")?;
-            Ok(())
-        }
-        Err(rejection) => Err(reject(rt, file, &text, rejection)),
-    }
+    let nodes = judge(&text).map_err(|rejection| reject(rt, file, &text, rejection))?;
+    let names = names_of(&text).count;
+    println!(rt; "accepted: {nodes} nodes, {names} names")?;
+    Ok(())
 }
 
 // Says whether the file is a routine.
 pub fn read(rt: &HostRuntime, file: &str) -> Result<(), Failure> {
     let text = load(rt, file)?;
-    let mut table = [BLANK; NODES];
+    let mut table = [BLANK; MAX_NODES];
     let nodes = accept(rt, file, &text, &mut table)?;
     let names = names_of(&text).count;
     println!(rt; "read: {nodes} nodes, {names} names (not yet checked)")?;
@@ -45,7 +38,7 @@ pub fn read(rt: &HostRuntime, file: &str) -> Result<(), Failure> {
 // Prints the node table, one node a line.
 pub fn table(rt: &HostRuntime, file: &str) -> Result<(), Failure> {
     let text = load(rt, file)?;
-    let mut table = [BLANK; NODES];
+    let mut table = [BLANK; MAX_NODES];
     let nodes = accept(rt, file, &text, &mut table)?;
     let names = names_of(&text);
     let mut out = BufWriter::new(rt.alloc(), rt.stdout())?;
@@ -104,7 +97,7 @@ fn print_node<W: Write>(
     let Some(node) = entry.node() else {
         return writeln!(out, "{number:>4}  {entry}  {place}");
     };
-    let name = name_of(node).and_then(|name| names.spelling(name));
+    let name = spelling(names, node);
     let named = Named { node, name };
     writeln!(out, "{number:>4}  {named}  {place}")
 }

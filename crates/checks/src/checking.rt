@@ -1,5 +1,5 @@
 // Asking the static rules.
-ghost use Rattle.std.specs.Prelude.{◌≡◌, true, [], ◌∷◌, Ok};
+ghost use Rattle.std.specs.Prelude.{◌≡◌, [], ◌∷◌, Ok};
 ghost use Rattle.draft.specs.Opening.{tree_of};
 ghost use Rattle.statics.specs.declared.rules.Rule.TheVariants.{DeclaredOnce, Declared, Typed, Set, Temporaries};
 ghost use Rattle.statics.specs.Checking.{asked, first_no, checking as checking_of};

@@ -6,4 +6,3 @@ pub mod Repeats
 pub mod Unset
 pub mod Flows
 pub mod Asked
-pub mod Rules

@@ -1,9 +1,8 @@
 // Asking the static rules.
-ghost use Rattle.std.specs.Prelude.{◌≡◌, true, [], ◌∷◌, Ok};
+ghost use Rattle.std.specs.Prelude.{◌≡◌, [], ◌∷◌, Ok};
 ghost use Rattle.draft.specs.Opening.{tree_of};
 ghost use Rattle.statics.specs.declared.rules.Rule.TheVariants.{DeclaredOnce, Declared, Typed, Set, Temporaries};
-ghost use Rattle.statics.specs.Choosing.{lowest};
-ghost use Rattle.statics.specs.Checking.{asked, faults, first_no, checking as checking_of};
+ghost use Rattle.statics.specs.Checking.{asked, first_no, checking as checking_of};
 ghost use Rattle.statics.specs.StaticLaws.{Judged};
 ghost use Rattle.checks.specs.Outcomes.{outcome_of, Kept};
 
@@ -15,47 +14,22 @@ use crate::typing::ill_typed;
 use draft::draft::Draft;
 use statics::rules::{Rule, Violation};
 
+// The answer to one question, given the lowest node at fault for it.
+fn ask(rule: Rule, fault: Option<u16>) -> Result<(), Violation>
+    ensures { result ≡ asked rule fault (Ok tt) }
+{
+    fault.map_or(Ok(()), |node| Err(Violation { rule, node }))
+}
+
 // The rules in their order.
-const RULES: [Rule; 5] = [
-    Rule::DeclaredOnce,
-    Rule::Declared,
-    Rule::Typed,
-    Rule::Set,
-    Rule::Temporaries,
-];
-
-// The lowest node at fault for a rule.
-fn fault(draft: &Draft, rule: Rule) -> Option<u16>
-    ensures { result ≡ lowest (faults rule (tree_of draft.now)) }
-{
-    match rule {
-        Rule::DeclaredOnce => repeated_name(draft),
-        Rule::Declared => undeclared_name(draft),
-        Rule::Typed => ill_typed(draft),
-        Rule::Set => unset_variable(draft),
-        Rule::Temporaries => too_large(draft),
-    }
-}
-
-fn ask(draft: &Draft, rule: Rule) -> Result<(), Violation>
-    ensures { result ≡ asked rule (lowest (faults rule (tree_of draft.now))) (Ok tt) }
-{
-    fault(draft, rule).map_or(Ok(()), |node| Err(Violation { rule, node }))
-}
-
-fn ask_each(draft: &Draft, rules: &[Rule]) -> Result<(), Violation>
-    ensures { result ≡ first_no rules.now (tree_of draft.now) }
-{
-    for rule in rules {
-        ask(draft, *rule)?;
-    }
-    Ok(())
-}
-
 fn ask_all(draft: &Draft) -> Result<(), Violation>
     ensures { result ≡ first_no (DeclaredOnce ∷ Declared ∷ Typed ∷ Set ∷ Temporaries ∷ []) (tree_of draft.now) }
 {
-    ask_each(draft, &RULES)
+    ask(Rule::DeclaredOnce, repeated_name(draft))?;
+    ask(Rule::Declared, undeclared_name(draft))?;
+    ask(Rule::Typed, ill_typed(draft))?;
+    ask(Rule::Set, unset_variable(draft))?;
+    ask(Rule::Temporaries, too_large(draft))
 }
 
 // Asks a draft the static rules: yes, or the first rule that is broken and the lowest node at fault.

@@ -1,16 +1,16 @@
 // Whether each name is declared once, and each name used is declared.
-ghost use Rattle.std.specs.Prelude.{◌≡◌, ◌<◌, slice_index_or};
+ghost use Rattle.std.specs.Prelude.{◌≡◌, ◌<◌, length, slice_index_or};
 ghost use Rattle.tosca.specs.Table.{blank, node};
-ghost use Rattle.draft.specs.Opening.{tree_of};
+ghost use Rattle.draft.specs.Opening.{entries_of, tree_of};
 ghost use Rattle.statics.specs.declared.rules.Rule.TheVariants.{DeclaredOnce, Declared};
 ghost use Rattle.statics.specs.Choosing.{lowest};
 ghost use Rattle.statics.specs.Typing.{variable_verdict};
 ghost use Rattle.statics.specs.Checking.{faults};
 ghost use Rattle.walk.specs.Readings.{types_of};
-ghost use Rattle.checks.specs.Asking.{is_wrong, names_undeclared, of_node};
+ghost use Rattle.checks.specs.Asking.{is_wrong, names_undeclared as names_undeclared_of, of_node};
 
 use crate::nodes::{count, node_at};
-use crate::passes::{Test, first_fault};
+use crate::passes::first_fault;
 use draft::draft::Draft;
 use statics::verdict::TypeError;
 use tosca::table::Node;
@@ -35,30 +35,22 @@ pub(crate) fn repeated_name(draft: &Draft) -> Option<u16>
     None
 }
 
-// Nodes that have a name without a declaration, by the types of names.
-#[derive(Drop)]
-struct Undeclared {
-    typing: Typing,
+// A name that is declared has a type.
+fn is_undeclared(typing: &Typing, name: u16) -> bool
+    requires { name < 64 }
+    ensures { result ≡ is_wrong (variable_verdict (types_of typing.now name)) }
+{
+    typing.variable(name) == Err(TypeError::Wrong)
 }
 
-impl Undeclared {
-    // A name that is declared has a type.
-    fn lacks(&self, name: u16) -> bool
-        requires { name < 64 }
-        ensures { result ≡ is_wrong (variable_verdict (types_of self.now.typing name)) }
-    {
-        self.typing.variable(name) == Err(TypeError::Wrong)
-    }
-}
-
-impl Test for Undeclared {
-    ghost faulty = { λ s t n. of_node (names_undeclared (λ x. variable_verdict (types_of s.typing x))) (node (slice_index_or t n blank)) };
-
-    fn is_at_fault(&self, draft: &Draft, n: u16) -> bool {
-        match node_at(draft, n) {
-            Node::Var(name) | Node::Assign(name, _) | Node::Input(name) => self.lacks(name),
-            _ => false,
-        }
+// The node of this number has a name without a declaration, by the types of names.
+fn names_undeclared(typing: &Typing, draft: &Draft, n: u16) -> bool
+    requires { n < length (entries_of draft.now) }
+    ensures { result ≡ of_node (names_undeclared_of (λ x. variable_verdict (types_of typing.now x))) (node (slice_index_or (entries_of draft.now) n blank)) }
+{
+    match node_at(draft, n) {
+        Node::Var(name) | Node::Assign(name, _) | Node::Input(name) => is_undeclared(typing, name),
+        _ => false,
     }
 }
 
@@ -66,8 +58,6 @@ impl Test for Undeclared {
 pub(crate) fn undeclared_name(draft: &Draft) -> Option<u16>
     ensures { result ≡ lowest (faults Declared (tree_of draft.now)) }
 {
-    let test = Undeclared {
-        typing: Typing::of(draft),
-    };
-    first_fault(&test, draft)
+    let typing = Typing::of(draft);
+    first_fault(draft, |n| names_undeclared(&typing, draft, n))
 }

@@ -20,7 +20,7 @@ pub fn node_at(draft: &Draft, n: u16) -> Node
     requires { n < length (entries_of draft.now) }
     ensures { node (slice_index_or (entries_of draft.now) n blank) ≡ Some result }
 {
-    draft.entries()[n as usize].node().unwrap()
+    draft.entries()[usize::from(n)].node().unwrap()
 }
 
 // The number of the routine's command.

@@ -1,25 +1,20 @@
 // One pass over the entries of a draft, for the first that is at fault.
-ghost use Rattle.std.specs.Prelude.{◌≡◌, ℕ, ◌<◌, Bool, List, length};
-ghost use Rattle.tosca.specs.declared.table.Entry.{Entry};
+ghost use Rattle.std.specs.Prelude.{◌≡◌, ℕ, ◌<◌, Bool, length};
 ghost use Rattle.draft.specs.Opening.{entries_of};
 ghost use Rattle.statics.specs.Scanning.{first_of};
 
 use crate::nodes::count;
 use draft::draft::Draft;
 
-// A question that is asked of one entry at a time.
-pub(crate) trait Test {
-    // the entry of this number is at fault
-    ghost faulty: { Self → List Entry → ℕ → Bool };
-
-    fn is_at_fault(&self, draft: &Draft, n: u16) -> bool
-        requires { n < length (entries_of draft.now) }
-        ensures { result ≡ faulty self.now (entries_of draft.now) n };
-}
-
-// The lowest node at fault.
-pub(crate) fn first_fault<T: Test>(test: &T, draft: &Draft) -> Option<u16>
-    ensures { result ≡ first_of (T.faulty test.now (entries_of draft.now)) 0 (length (entries_of draft.now)) }
+// The lowest node at fault, by any p that says what the test says.
+pub(crate) fn first_fault<F: Fn(u16) -> bool>(draft: &Draft, test: F) -> Option<u16>
+    requires { (n : ℕ) → n < length (entries_of draft.now) → F.pre test n }
+    ensures { (p : ℕ → Bool) → ((n : ℕ) (r : Bool) → F.post test n r → r ≡ p n) → result ≡ first_of p 0 (length (entries_of draft.now)) }
 {
-    (0..count(draft)).find(|n| test.is_at_fault(draft, *n))
+    (0..count(draft)).find(
+        |n|
+            requires { F.pre test n.now }
+            ensures { F.post test n.now result }
+        { test(*n) },
+    )
 }

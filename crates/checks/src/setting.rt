@@ -93,7 +93,7 @@ impl Reads<'_> {
         requires { IsNode (entries_of self.now.draft.now) n is_expr }
         ensures { result ≡ lowest (unset_nodes (holds set) (expr_at (entries_of self.now.draft.now) n)) }
     {
-        if set.covers(self.reads[n as usize]) {
+        if set.covers(self.reads[usize::from(n)]) {
             return None;
         }
         match node_at(self.draft, n) {

@@ -1,7 +1,7 @@
 // Whether types are right.
-ghost use Rattle.std.specs.Prelude.{◌≡◌, ◌<◌, get_or, slice_index_or, Err};
+ghost use Rattle.std.specs.Prelude.{◌≡◌, ◌<◌, length, get_or, slice_index_or, Err};
 ghost use Rattle.tosca.specs.Table.{blank, node};
-ghost use Rattle.draft.specs.Opening.{tree_of};
+ghost use Rattle.draft.specs.Opening.{entries_of, tree_of};
 ghost use Rattle.statics.specs.declared.rules.Rule.TheVariants.{Typed};
 ghost use Rattle.statics.specs.declared.verdict.TypeError.TheVariants.{Wrong};
 ghost use Rattle.statics.specs.Choosing.{lowest};
@@ -11,7 +11,7 @@ ghost use Rattle.walk.specs.Readings.{types_of};
 ghost use Rattle.checks.specs.Asking.{differ as differ_of, is_ill_typed, of_node};
 
 use crate::nodes::node_at;
-use crate::passes::{Test, first_fault};
+use crate::passes::first_fault;
 use draft::draft::{Draft, MAX_NODES};
 use statics::verdict::{TypeError, Verdict};
 use tosca::operators::SimpleType;
@@ -22,7 +22,7 @@ use walk::types::{Typing, verdicts};
 fn at_fault(verdict: Verdict) -> bool
     ensures { result ≡ is_at_fault_of verdict }
 {
-    matches!(verdict, Err(TypeError::AtFault))
+    verdict == Err(TypeError::AtFault)
 }
 
 // Both sides of an assignment are right, and of two types.
@@ -36,30 +36,30 @@ fn differ(left: Verdict, right: Verdict) -> bool
 fn no_test(verdict: Verdict) -> bool
     ensures { result ≡ is_no_test verdict }
 {
-    matches!(verdict, Ok(SimpleType::Integer))
+    verdict == Ok(SimpleType::Integer)
 }
 
-// Nodes that are wrongly typed, by the types of names and, in fixed memory, the verdicts on expressions.
+// The types of names and, in fixed memory, the verdicts on expressions.
 #[derive(Drop)]
-struct IllTyped {
+struct Types {
     typing: Typing,
     verdicts: [Verdict; MAX_NODES],
 }
 
-impl IllTyped {
+impl Types {
     // The verdict on an expression.
     fn on(&self, n: u16) -> Verdict
         requires { n < 1024 }
         ensures { result ≡ slice_index_or self.now.verdicts n (Err Wrong) }
     {
-        self.verdicts[n as usize]
+        self.verdicts[usize::from(n)]
     }
-}
 
-impl Test for IllTyped {
-    ghost faulty = { λ s t n. of_node (is_ill_typed (λ x. variable_verdict (types_of s.typing x)) (λ k. get_or s.verdicts k (Err Wrong)) n) (node (slice_index_or t n blank)) };
-
-    fn is_at_fault(&self, draft: &Draft, n: u16) -> bool {
+    // The node of this number is wrongly typed.
+    fn is_ill_typed(&self, draft: &Draft, n: u16) -> bool
+        requires { n < length (entries_of draft.now) }
+        ensures { result ≡ of_node (is_ill_typed (λ x. variable_verdict (types_of self.now.typing x)) (λ k. get_or self.now.verdicts k (Err Wrong)) n) (node (slice_index_or (entries_of draft.now) n blank)) }
+    {
         match node_at(draft, n) {
             Node::Const(_) | Node::Var(_) | Node::Uny(_, _) | Node::Bin(_, _, _) => {
                 at_fault(self.on(n))
@@ -78,9 +78,9 @@ pub(crate) fn ill_typed(draft: &Draft) -> Option<u16>
     let typing = Typing::of(draft);
     let mut on = [Err(TypeError::Wrong); MAX_NODES];
     verdicts(&typing, draft, &mut on);
-    let test = IllTyped {
+    let types = Types {
         typing,
         verdicts: on,
     };
-    first_fault(&test, draft)
+    first_fault(draft, |n| types.is_ill_typed(draft, n))
 }

@@ -1,4 +1,4 @@
-use Rattle.std.proofs.Common.{◌≡◌, List, get_or, Some, refl, ap, ◌∙◌}
+use Rattle.std.proofs.Common.{◌≡◌, ℕ, List, get_or, Some, refl, ◌∙◌, ap₂}
 use Rattle.tosca.specs.Table.{blank, node}
 use Rattle.tosca.specs.declared.table.Entry.{Entry}
 use Rattle.draft.specs.Opening.{entries_of}
@@ -8,5 +8,5 @@ use Rattle.checks.proofs.nodes.node_at.Goals as goal
 pub unwrap-requires : goal.unwrap-requires
 unwrap-requires c =
     let f = some_node (entries_of c.args.draft.now) c.args.draft.now.formed c.args.n c.requires in
-    let e : c.node.result ≡ Some f.0 = c.node.ensures ∙ ap (λ (t : List Entry). node (get_or t c.args.n blank)) c.entries.ensures ∙ f.1 in
+    let e : c.node.result ≡ Some f.0 = c.node.ensures ∙ ap₂ (λ (t : List Entry) (n : ℕ). node (get_or t n blank)) c.entries.ensures c.from.ensures ∙ f.1 in
     rw e refl

@@ -12,9 +12,10 @@ returns-then-covers t c =
     let n = c.args.n in
     let r = c.args.self.now in
     let within : n < length r.reads.now = omega (arith, c.requires.below, r.room) in
-    let at : get_or r.reads.now n 0 ≡ get_or r.reads.now n c.index-self-n.result = get_or_default r.reads.now n 0 c.index-self-n.result within in
-    unset_covered (get_or r.reads.now n c.index-self-n.result) c.args.set (expr_at (entries_of r.draft.now) n)
-    (λ x reads. ap (λ (s : ℕ). holds s x) (sym at) ∙ r.read n x within c.requires.is reads) c.if-covers.ensures
+    let d = c.index-self-from.result in
+    let at : get_or r.reads.now c.from.result d ≡ get_or r.reads.now n 0 = ap (λ (k : ℕ). get_or r.reads.now k d) c.from.ensures ∙ sym (get_or_default r.reads.now n 0 d within) in
+    unset_covered (get_or r.reads.now c.from.result d) c.args.set (expr_at (entries_of r.draft.now) n)
+    (λ x reads. ap (λ (s : ℕ). holds s x) at ∙ r.read n x within c.requires.is reads) c.if-covers.ensures
 
 pub has-requires : goal.has-requires
 has-requires t c = var_fact _ c.args.self.now.draft.now.formed _ c.requires.below c.in-Var.ensures

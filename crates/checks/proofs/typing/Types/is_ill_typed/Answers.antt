@@ -2,7 +2,7 @@ use Rattle.std.proofs.Common.{arith}
 use Rattle.draft.specs.Opening.{entries_of}
 use Rattle.draft.proofs.Facts.{assign_fact}
 use Rattle.checks.proofs.Within.{node_below, tested_part}
-use Rattle.checks.proofs.typing.IllTypedTest.is_at_fault.Goals as goal
+use Rattle.checks.proofs.typing.Types.is_ill_typed.Goals as goal
 
 pub variable-requires : goal.variable-requires
 variable-requires c = (assign_fact (entries_of c.args.draft.now) c.args.draft.now.formed c.args.n c.requires c.in-Assign.ensures).0

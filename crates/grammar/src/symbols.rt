@@ -107,12 +107,12 @@ pub enum Mark {
     Stop,
 }
 
-// How a message names the symbol.
-impl Display for Mark {
-    ghost output = { λ mark. Some (spelled mark) };
-
-    fn fmt<W: Write>(&self, f: &mut Formatter<W>) -> Result {
-        f.write_str(match self {
+impl Mark {
+    // How a message names the symbol.
+    pub fn spelling(self) -> &'static str
+        ensures { result.now ≡ spelled self }
+    {
+        match self {
             Mark::Program => "`program`",
             Mark::Var => "`var`",
             Mark::Semicolon => "`;`",
@@ -126,6 +126,14 @@ impl Display for Mark {
             Mark::End => "`end`",
             Mark::Period => "`.`",
             Mark::Stop => "the end of the text",
-        })
+        }
+    }
+}
+
+impl Display for Mark {
+    ghost output = { λ mark. Some (spelled mark) };
+
+    fn fmt<W: Write>(&self, f: &mut Formatter<W>) -> Result {
+        f.write_str(self.spelling())
     }
 }

@@ -4,3 +4,4 @@ pub mod Places
 pub mod Registers
 pub mod Cells
 pub mod Transfers
+pub mod Holding

@@ -58,6 +58,23 @@ impl Names {
     }
 }
 
+// The set of these bits.
+impl From<u64> for Names {
+    ghost from_gives = { λ bits set. set ≡ bits };
+
+    fn from(bits: u64) -> Names {
+        Names { bits }
+    }
+}
+
+impl From<Names> for u64 {
+    ghost from_gives = { λ set bits. bits ≡ set };
+
+    fn from(set: Names) -> u64 {
+        set.bits
+    }
+}
+
 // What is in one of two sets.
 impl BitOr for Names {
     type Output = Names;

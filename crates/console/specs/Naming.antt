@@ -1,25 +1,11 @@
 -- The name that a node has, and a node with its name spelled.
 use Rattle.std.specs.Prelude.{ℕ, List, ◌++◌, map, Some, None, codes, decimal, Option}
 use Rattle.std.specs.Borrow.{Bor}
+pub use Rattle.tosca.specs.Table.{name_of}
 use Rattle.tosca.specs.Text.{type_text, node_text}
 use Rattle.excerpts.specs.Shown.{printed}
 use Rattle.tosca.specs.declared.table.Node.{Node}
 use Rattle.tosca.specs.declared.table.Node.TheVariants.{Decl, Const, Var, Uny, Bin, Skip, Assign, Seq, Choice, Loop, Input, Output, Program}
-
-abbrev pub name_of : Node → Option ℕ
-name_of (Decl x t) = Some x
-name_of (Const v) = None
-name_of (Var x) = Some x
-name_of (Uny o a) = None
-name_of (Bin a o b) = None
-name_of Skip = None
-name_of (Assign x a) = Some x
-name_of (Seq a b) = None
-name_of (Choice a b d) = None
-name_of (Loop a b) = None
-name_of (Input x) = Some x
-name_of (Output a) = None
-name_of (Program a) = None
 
 -- the spelling in the place of the number
 abbrev pub spelled_text : Node → List ℕ → List ℕ

@@ -10,12 +10,7 @@ use tosca::table::Node;
 pub fn name_of(node: Node) -> Option<u16>
     ensures { result ≡ name_in node }
 {
-    match node {
-        Node::Decl(name, _) | Node::Var(name) | Node::Assign(name, _) | Node::Input(name) => {
-            Some(name)
-        }
-        _ => None,
-    }
+    node.name()
 }
 
 #[derive(Clone, Copy)]

@@ -11,10 +11,6 @@ use Rattle.draft.specs.Uses.{used_once}
 abbrev pub is : Sort → Entry → Bool
 is s e = same_sort (sort (node e)) s
 
-no_decl_all : (t : List Entry) → no_decl t ≡ list_all (λ e. not (is is_decl e)) t
-no_decl_all [] = refl
-no_decl_all (e ∷ t) = ap (λ b. not (is is_decl e) && b) (no_decl_all t)
-
 -- after the declarations there is none
 pub decls_skipped : (t : List Entry) → decls_first t ≡ list_all (λ e. not (is is_decl e)) (drop (prefix_len (is is_decl) t) t)
 decls_skipped [] = refl
@@ -22,7 +18,7 @@ decls_skipped (e ∷ t) = go (is is_decl e) refl (decls_skipped t)
   where
     go : (b : Bool) → is is_decl e ≡ b → decls_first t ≡ list_all (λ d. not (is is_decl d)) (drop (prefix_len (is is_decl) t) t) → cond b (decls_first t) (no_decl t) ≡ list_all (λ d. not (is is_decl d)) (drop (cond b (1 + prefix_len (is is_decl) t) 0) (e ∷ t))
     go true h r = let one : suc (prefix_len (is is_decl) t) ≡ 1 + prefix_len (is is_decl) t = omega arith in r ∙ ap (λ n. list_all (λ d. not (is is_decl d)) (drop n (e ∷ t))) one
-    go false h r = no_decl_all t ∙ sym (ap (λ b. not b && list_all (λ d. not (is is_decl d)) t) h)
+    go false h r = sym (ap (λ b. not b && list_all (λ d. not (is is_decl d)) t) h)
 
 -- the last entry is a program, and none of the others is
 program_split : (others : List Entry) (last : Entry) → program_last (others ++ last ∷ []) ≡ (is is_program last && not (list_any (is is_program) others))

@@ -7,13 +7,9 @@ use Rattle.std.proofs.lemmas.Iterator.{YieldsList}
 use Rattle.std.proofs.lemmas.Iterator.Consumers.{YieldsList-from_shown}
 use Rattle.tosca.specs.declared.table.Entry.{Entry}
 use Rattle.tosca.specs.Table.{node}
-use Rattle.tosca.specs.Opens.{known, are_known, placed, are_placed, parts}
+use Rattle.tosca.specs.Opens.{placed, are_placed, parts}
 use Rattle.draft.specs.declared.nodes.Part.{Part as NodePart}
 use Rattle.draft.specs.Nodes.{part_of}
-
-pub known_all : (t : List Entry) → are_known t ≡ list_all known t
-known_all [] = refl
-known_all (e ∷ t) = ap (λ b. known e && b) (known_all t)
 
 -- what an array's iterator gives
 pub YieldsList-from_array : {A : Type 0} {n : ℕ} {s : IntoIter A n} (xs : List A) → array_into_iter_items s ≡ xs → YieldsList array_steps (λ x. x) s xs

@@ -36,6 +36,7 @@ fn count_parts(uses: &mut [u8], entry: &Entry)
     for part in Part::all_of(entry).into_iter().flatten() {
         let at = usize::from(part.at);
         if at < uses.len() {
+            // by index: a proof knows nothing of the element after a slice's get_mut
             uses[at] = uses[at].saturating_add(1);
         }
     }

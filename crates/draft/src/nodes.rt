@@ -40,6 +40,13 @@ impl Sort {
             Node::Program(_) => Some(Sort::Program),
         }
     }
+
+    // The node of a number, as a part that must have this sort.
+    fn part(self, at: u16) -> Option<Part>
+        ensures { result ≡ Some (record { at = at; wants = self }) }
+    {
+        Some(Part { at, wants: self })
+    }
 }
 
 pub(crate) fn has_sort(entry: &Entry, sort: Sort) -> bool
@@ -49,39 +56,22 @@ pub(crate) fn has_sort(entry: &Entry, sort: Sort) -> bool
 }
 
 impl Part {
-    fn expression(at: u16) -> Option<Part>
-        ensures { result ≡ Some (record { at = at; wants = Sort.Expression }) }
-    {
-        Some(Part {
-            at,
-            wants: Sort::Expression,
-        })
-    }
-
-    fn command(at: u16) -> Option<Part>
-        ensures { result ≡ Some (record { at = at; wants = Sort.Command }) }
-    {
-        Some(Part {
-            at,
-            wants: Sort::Command,
-        })
-    }
-
     // The parts of an entry's node, in their order; an entry that is no node has none.
     pub(crate) fn all_of(entry: &Entry) -> [Option<Part>; 3]
         ensures { parts_in (node_of entry.now) ≡ parts_of result }
     {
+        use Sort::{Command, Expression};
         match entry.node() {
             Some(Node::Uny(_, a) | Node::Assign(_, a) | Node::Output(a)) => {
-                [Part::expression(a), None, None]
+                [Expression.part(a), None, None]
             }
-            Some(Node::Bin(a, _, b)) => [Part::expression(a), Part::expression(b), None],
-            Some(Node::Seq(a, b)) => [Part::command(a), Part::command(b), None],
+            Some(Node::Bin(a, _, b)) => [Expression.part(a), Expression.part(b), None],
+            Some(Node::Seq(a, b)) => [Command.part(a), Command.part(b), None],
             Some(Node::Choice(a, b, c)) => {
-                [Part::expression(a), Part::command(b), Part::command(c)]
+                [Expression.part(a), Command.part(b), Command.part(c)]
             }
-            Some(Node::Loop(a, b)) => [Part::expression(a), Part::command(b), None],
-            Some(Node::Program(a)) => [Part::command(a), None, None],
+            Some(Node::Loop(a, b)) => [Expression.part(a), Command.part(b), None],
+            Some(Node::Program(a)) => [Command.part(a), None, None],
             Some(Node::Decl(..) | Node::Const(_) | Node::Var(_) | Node::Skip | Node::Input(_))
             | None => [None; 3],
         }

@@ -16,20 +16,7 @@ const MAX_PLACE: u16 = 16384;
 fn has_known_name(node: Node) -> bool
     ensures { result ≡ few_names node }
 {
-    match node {
-        Node::Decl(name, _) | Node::Var(name) | Node::Assign(name, _) | Node::Input(name) => {
-            name < MAX_NAMES
-        }
-        Node::Const(_)
-        | Node::Uny(..)
-        | Node::Bin(..)
-        | Node::Skip
-        | Node::Seq(..)
-        | Node::Choice(..)
-        | Node::Loop(..)
-        | Node::Output(_)
-        | Node::Program(_) => true,
-    }
+    node.name().is_none_or(|name| name < MAX_NAMES)
 }
 
 fn is_known(entry: &Entry) -> bool

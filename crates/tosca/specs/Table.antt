@@ -111,3 +111,19 @@ node e =
     (cond (e.kind == 11) (Some (Input e.name))
     (cond (e.kind == 12) (Some (Output e.first))
     (cond (e.kind == 13) (Some (Program e.first)) None))))))))))))
+
+-- the number of the name that a node has
+abbrev pub name_of : Node → Option ℕ
+name_of (Decl x y) = Some x
+name_of (Const v) = None
+name_of (Var x) = Some x
+name_of (Uny o a) = None
+name_of (Bin a o b) = None
+name_of Skip = None
+name_of (Assign x a) = Some x
+name_of (Seq a b) = None
+name_of (Choice a b c) = None
+name_of (Loop a b) = None
+name_of (Input x) = Some x
+name_of (Output a) = None
+name_of (Program a) = None

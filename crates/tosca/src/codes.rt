@@ -6,6 +6,8 @@ use crate::operators::{Binary, SimpleType, Unary};
 use std::error::Error;
 use std::fmt;
 
+// An impl for each type: a cast or a match of literals needs a known type, and the gate refuses impls that a macro writes.
+
 // A code that names no type, or no operator of so many operands.
 #[derive(Clone, Copy, PartialEq, Eq, Debug)]
 pub struct UnknownCode(pub u8);

@@ -1,6 +1,6 @@
 // The node table: its entries are plain numbers, and this module alone knows the codes of their kinds.
 ghost use Rattle.std.specs.Prelude.{◌≡◌};
-ghost use Rattle.tosca.specs.Table.{constant as constant_of, entry as entry_of, node as node_of};
+ghost use Rattle.tosca.specs.Table.{constant as constant_of, entry as entry_of, name_of, node as node_of};
 
 use crate::operators::{Binary, SimpleType, Unary, Value};
 
@@ -48,6 +48,28 @@ pub const BLANK: Entry = Entry {
     third: 0,
     place: 0,
 };
+
+impl Node {
+    // The number of the name that the node has.
+    pub fn name(self) -> Option<u16>
+        ensures { result ≡ name_of self }
+    {
+        match self {
+            Node::Decl(name, _) | Node::Var(name) | Node::Assign(name, _) | Node::Input(name) => {
+                Some(name)
+            }
+            Node::Const(_)
+            | Node::Uny(..)
+            | Node::Bin(..)
+            | Node::Skip
+            | Node::Seq(..)
+            | Node::Choice(..)
+            | Node::Loop(..)
+            | Node::Output(_)
+            | Node::Program(_) => None,
+        }
+    }
+}
 
 // The codes of the kinds, which the table format wants as plain numbers. Constants write and match them.
 const DECL: u8 = 1;

@@ -27,7 +27,7 @@ impl Typing {
         requires { name < 64 }
         ensures { self.new.types ≡ slice_set self.old.types name (option_or (types_of self.old name) (Some typ)) }
     {
-        let name = name as usize;
+        let name = usize::from(name);
         self.types[name] = self.types[name].or(Some(typ));
     }
 

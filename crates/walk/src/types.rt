@@ -67,7 +67,7 @@ impl Reading for Typing {
     }
 
     fn variable(&self, name: u16) -> Verdict {
-        self.types[name as usize].ok_or(TypeError::Wrong)
+        self.types[usize::from(name)].ok_or(TypeError::Wrong)
     }
 
     fn unary(&self, op: Unary, operand: Verdict) -> Verdict {

@@ -15,9 +15,9 @@ fn answer<R: Reading>(reading: &R, node: Option<Node>, parts: &[R::Answer]) -> O
     match node {
         Some(Node::Const(value)) => Some(reading.constant(value)),
         Some(Node::Var(name)) => Some(reading.variable(name)),
-        Some(Node::Uny(op, a)) => Some(reading.unary(op, parts[a as usize])),
+        Some(Node::Uny(op, a)) => Some(reading.unary(op, parts[usize::from(a)])),
         Some(Node::Bin(a, op, b)) => {
-            Some(reading.binary(op, parts[a as usize], parts[b as usize]))
+            Some(reading.binary(op, parts[usize::from(a)], parts[usize::from(b)]))
         }
         _ => None,
     }

@@ -61,7 +61,7 @@ impl Mounted {
     }
 }
 
-// Asks the questions in their order, up to the first that fails.
+// Asks the questions in their order, up to the first that fails. A table of nodes is asked alike: the questions, their numbers and what is made are each table's own.
 fn ask(table: &[CodeEntry], count: usize) -> Result<(), Unmountable>
     ensures { answered result ≡ mounting_of table.now count }
 {

@@ -1,10 +1,10 @@
 // Commands: the functions call one another in a cycle, as their rules do.
-ghost use Rattle.std.specs.Prelude.{◌≡◌, ℕ, ◌+◌, ◌*◌, ◌<◌, ◌≤◌, List, ◌∷◌};
+ghost use Rattle.std.specs.Prelude.{◌≡◌, ◌∷◌};
 ghost use Rattle.grammar.specs.Automaton.{cmd, cmds, elses};
 ghost use Rattle.grammar.specs.declared.symbols.Start.TheVariants.{Begin, If, While};
 ghost use Rattle.grammar.specs.Tokens.{start};
 ghost use Rattle.lexer.specs.Lexemes.{meant, other};
-ghost use Rattle.parser.specs.Feeds.{ahead, unread, Ready};
+ghost use Rattle.parser.specs.Feeds.{Ready};
 ghost use Rattle.parser.specs.Parsing.{Parsed, Takes, Less, Roomy};
 
 use crate::simple_commands::{assignment, input, is_else, output, skip};
@@ -96,7 +96,7 @@ fn alternative(parser: &mut Parser<'_>, table: &mut [Entry], depth: Depth) -> Re
     cmd(parser, table, depth)
 }
 
-// while expr do cmd
+// while expr do cmd. It begins as a choice does: a function for both beginnings would need a clause over both rules.
 #[cycle(alternative_block_choice_cmd_cmds_repetition)]
 fn repetition(parser: &mut Parser<'_>, table: &mut [Entry], depth: Depth) -> Result<u16, Refusal>
     requires { (Ready parser.old) × (meant parser.old.lookahead.token ≡ other (start While)) }

@@ -1,10 +1,10 @@
 // Commands that hold no other.
-ghost use Rattle.std.specs.Prelude.{◌≡◌, ℕ, ◌+◌, ◌*◌, ◌<◌, ◌≤◌, true, List, ◌∷◌};
+ghost use Rattle.std.specs.Prelude.{◌≡◌, ℕ, ◌<◌, ◌≤◌, true};
 ghost use Rattle.grammar.specs.Automaton.{cmd};
 ghost use Rattle.grammar.specs.declared.symbols.Start.TheVariants.{Read, Write};
 ghost use Rattle.grammar.specs.Tokens.{start, is_else as is_else_token};
 ghost use Rattle.lexer.specs.Lexemes.{meant, other};
-ghost use Rattle.parser.specs.Feeds.{ahead, next, unread, Ready};
+ghost use Rattle.parser.specs.Feeds.{next, Ready};
 ghost use Rattle.parser.specs.Advancing.{is_name, Listed};
 ghost use Rattle.parser.specs.Parsing.{Parsed, Less};
 

@@ -1,7 +1,7 @@
 // Declarations. A name is listed when it is read, and gets its type when that is read.
-ghost use Rattle.std.specs.Prelude.{◌≡◌, ℕ, ◌+◌, ◌-◌, ◌*◌, ◌<◌, ◌≤◌, true, List, [], ◌∷◌};
+ghost use Rattle.std.specs.Prelude.{◌≡◌, ◌-◌, [], ◌∷◌};
 ghost use Rattle.grammar.specs.Automaton.{vars, decls, a_name, names, type as type_symbol, body};
-ghost use Rattle.parser.specs.Feeds.{ahead, next, unread, Ready};
+ghost use Rattle.parser.specs.Feeds.{Ready};
 ghost use Rattle.declarations.specs.Declaring.{Used, Passes, Typed, Begun, Drafts, retyped};
 
 use grammar::symbols::{Mark, Start};

@@ -1,5 +1,5 @@
 // The line of a place, with a mark under the place.
-ghost use Rattle.std.specs.Prelude.{◌≡◌, ◌-◌, ◌≤◌, ◌++◌, map, length, Some, codes};
+ghost use Rattle.std.specs.Prelude.{◌≡◌, ◌≤◌, ◌++◌, map, length, Some, codes};
 ghost use Rattle.excerpts.specs.Lines.{within};
 ghost use Rattle.excerpts.specs.Excerpts.{shown_line, shown_before};
 ghost use Rattle.excerpts.specs.Shown.{printed, blanked};

@@ -1,10 +1,10 @@
 // Expressions: the functions call one another in a cycle, as their rules do.
-ghost use Rattle.std.specs.Prelude.{◌≡◌, ℕ, ◌+◌, ◌*◌, ◌<◌, ◌≤◌, List, ◌∷◌};
+ghost use Rattle.std.specs.Prelude.{◌≡◌, ◌∷◌};
 ghost use Rattle.grammar.specs.Automaton.{expr, simple, simples, term, factor};
 ghost use Rattle.grammar.specs.declared.symbols.Prefix.TheVariants.{Open, Not, Round};
 ghost use Rattle.grammar.specs.Tokens.{pre};
 ghost use Rattle.lexer.specs.Lexemes.{meant, other};
-ghost use Rattle.parser.specs.Feeds.{ahead, unread, Ready};
+ghost use Rattle.parser.specs.Feeds.{Ready};
 ghost use Rattle.parser.specs.Parsing.{Parsed, Takes, Less};
 
 use crate::leaves::{adding, constant, is_minus, multiplying, number, relation, variable};
@@ -67,7 +67,7 @@ fn first_term(parser: &mut Parser<'_>, table: &mut [Entry], depth: Depth) -> Res
     Ok(parser.emit(table, Node::Uny(Unary::Negate, part), place))
 }
 
-// The term after a sign.
+// The term after a sign. A function of its own, so that another rule than term is refused at its clause: the loops around it are proved in a file.
 #[cycle(bracketed_expr_factor_first_term_negated_next_term_rounded_simple_term)]
 fn next_term(parser: &mut Parser<'_>, table: &mut [Entry], depth: Depth) -> Result<u16, Refusal>
     requires { Ready parser.old }

@@ -1,12 +1,12 @@
 // The operators that may come next, and the factors that are one token.
-ghost use Rattle.std.specs.Prelude.{◌≡◌, ℕ, ◌+◌, ◌*◌, ◌<◌, ◌≤◌, true, false, pos};
+ghost use Rattle.std.specs.Prelude.{◌≡◌, ℕ, ◌≤◌, true, pos};
 ghost use Rattle.grammar.specs.Automaton.{factor};
-ghost use Rattle.grammar.specs.Tokens.{lit, name, as_mul, as_add, as_rel};
+ghost use Rattle.grammar.specs.Tokens.{lit, as_mul, as_add, as_rel};
 ghost use Rattle.lexer.specs.Lexemes.{meant};
 ghost use Rattle.lexer.specs.Lexemes.{number as digits_of};
 ghost use Rattle.lexer.specs.Scan.{limit};
 ghost use Rattle.lexer.specs.Spelling.{value as value_of};
-ghost use Rattle.parser.specs.Feeds.{ahead, next, unread, Ready};
+ghost use Rattle.parser.specs.Feeds.{next, Ready};
 ghost use Rattle.parser.specs.Advancing.{plain, is_name, is_minus as is_minus_token, seen};
 ghost use Rattle.parser.specs.Parsing.{Parsed, Less};
 
@@ -22,7 +22,7 @@ pub(crate) fn number(digits: &[u8]) -> i32
     requires { limit (digits_of digits.now) ≡ 0 }
     ensures { result ≡ pos (value_of digits.now) }
 {
-    decimal(digits).unwrap_or(0)
+    decimal(digits).unwrap()
 }
 
 // Whether the next token is a minus.
@@ -35,7 +35,7 @@ pub(crate) fn is_minus(parser: &Parser<'_>) -> bool
     )
 }
 
-// The next token as an operator of one precedence. Three functions, since a proof is not told, where a loop over the pattern `Token::Operator(Operator::Mul(op))` ends, that the operator is of another kind.
+// The next token as an operator of one precedence. Functions, since a proof is not told, where a loop over the pattern `Token::Operator(Operator::Mul(op))` ends, that the operator is of another kind. `relation` is asked in no loop, and has the shape of the two, as the three are proved alike.
 pub(crate) fn multiplying(parser: &Parser<'_>) -> Option<Multiplying>
     ensures { seen result ≡ as_mul (next parser.now) }
 {

@@ -46,6 +46,6 @@ fn with_digit(n: u32, b: u8, most: u32) -> Option<u32>
 {
     let n = n
         .checked_mul(10)?
-        .checked_add(b.saturating_sub(b'0') as u32)?;
+        .checked_add(u32::from(b.saturating_sub(b'0')))?;
     (n <= most).then_some(n)
 }

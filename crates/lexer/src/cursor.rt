@@ -10,6 +10,18 @@ pub struct Cursor<'a> {
 }
 
 impl<'a> Cursor<'a> {
+    // The cursor at the front of a text.
+    pub fn new(text: &'a [u8]) -> Cursor<'a>
+        requires { length text.now < 2 ^ 32 }
+        ensures place { result.place ≡ 0 }
+        ensures rest { result.rest.now ≡ text.now }
+    {
+        Cursor {
+            rest: text,
+            place: 0,
+        }
+    }
+
     // The cursor n bytes further on.
     pub(crate) fn advanced(self, n: usize) -> Cursor<'a>
         requires { n ≤ length self.rest.now }

@@ -1,5 +1,5 @@
 -- The four bytes of a place.
-use Rattle.std.proofs.Common.{◌≡◌, ℕ, pos, replicate, refl, ◌+◌, ◌*◌, ◌<◌, ◌≤◌, ◌≢◌, List, length, slice_index, ap, sym, ◌∙◌, arith, rules}
+use Rattle.std.proofs.Common.{◌≡◌, ℕ, pos, replicate, refl, ◌+◌, ◌*◌, ◌<◌, ◌≤◌, ◌≢◌, List, ℤ, length, slice_index, slice_index_or, ap, sym, ◌∙◌, arith, rules}
 use Rattle.std.proofs.lemmas.List.{places, get_or-replicate}
 use Rattle.line.specs.Registers.{number_at}
 use borrow.Rule.Slice.PartMut.{put_mid}
@@ -22,7 +22,13 @@ module _ (bytes part : List ℕ) (place size : ℕ) (fits : 4 * place + 4 ≤ le
   pub kept : (k : ℕ) → k ≢ place → number_at (put_mid (4 * place) size bytes part) k ≡ number_at bytes k
   kept k other = same_number (put_mid (4 * place) size bytes part) bytes k k (λ j h. search (rules, places))
 
-pub zeros : (n k : ℕ) → 4 * k + 4 ≤ n → number_at (replicate n 0) k ≡ pos 0
+zeros : (n k : ℕ) → 4 * k + 4 ≤ n → number_at (replicate n 0) k ≡ pos 0
 zeros n k fits =
     let zero : (j : ℕ) → j < n → slice_index (replicate n 0) j ≡ 0 = λ j h. get_or-replicate n j 0 0 h in
     rw (zero (2 * (2 * k)) (omega arith), zero (2 * (2 * k) + 1) (omega arith), zero (2 * (2 * k + 1)) (omega arith), zero (2 * (2 * k + 1) + 1) (omega arith)) refl
+
+pub blank_bytes : (bytes : List ℕ) (k : ℕ) → bytes ≡ replicate 240 0 → k < 60 → number_at bytes k ≡ pos 0
+blank_bytes bytes k all within = rw all (zeros 240 k (omega arith))
+
+pub no_numbers : (elements : List ℤ) (k : ℕ) → elements ≡ replicate 64 (pos 0) → k < 64 → slice_index_or elements k (pos 0) ≡ pos 0
+no_numbers elements k all within = rw all (get_or-replicate 64 k (pos 0) (pos 0) within)

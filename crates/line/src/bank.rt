@@ -1,6 +1,7 @@
 // 60 numbers in 120 registers of 16 bits: two registers to a number, the high one first, and each register's high byte first.
+ghost use Rattle.std.specs.Prelude.{◌≡◌, replicate};
 ghost use Rattle.line.specs.Cells.{register_cell};
-ghost use Rattle.line.specs.declared.bank.TheConstants.{NUMBERS};
+ghost use Rattle.line.specs.declared.bank.TheConstants.{NUMBERS, BYTES};
 ghost use Rattle.std.proofs.Common.{rules};
 
 use crate::cells::Cells;
@@ -23,8 +24,9 @@ impl Cells for Bank {
 
     ghost size_positive = { Prim.search rules };
 
+    #[tactic(auto, using(crate::proofs::Bytes::blank_bytes))]
     fn new() -> Self {
-        Bank { bytes: [0; BYTES] }
+        Bank { bytes: zeros() }
     }
 
     fn read(&self, place: usize) -> i32 {
@@ -42,4 +44,11 @@ impl Cells for Bank {
         let at = 4 * place;
         self.bytes[at..at + 4].copy_from_slice(&number.to_be_bytes());
     }
+}
+
+// A function of its own, so that another byte than 0 is refused here.
+fn zeros() -> [u8; BYTES]
+    ensures { result ≡ replicate BYTES 0 }
+{
+    [0; BYTES]
 }

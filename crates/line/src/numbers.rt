@@ -1,4 +1,5 @@
 // 64 numbers, each in an element of an array.
+ghost use Rattle.std.specs.Prelude.{◌≡◌, pos, replicate};
 ghost use Rattle.line.specs.Cells.{number_cell};
 ghost use Rattle.line.specs.declared.numbers.TheConstants.{NUMBERS};
 ghost use Rattle.std.proofs.Common.{rules};
@@ -21,10 +22,9 @@ impl Cells for Numbers {
 
     ghost size_positive = { Prim.search rules };
 
+    #[tactic(auto, using(crate::proofs::Bytes::no_numbers))]
     fn new() -> Self {
-        Numbers {
-            elements: [0; NUMBERS],
-        }
+        Numbers { elements: zeros() }
     }
 
     fn read(&self, place: usize) -> i32 {
@@ -34,4 +34,11 @@ impl Cells for Numbers {
     fn write(&mut self, place: usize, number: i32) {
         self.elements[place] = number;
     }
+}
+
+// A function of its own, so that another number than 0 is refused here.
+fn zeros() -> [i32; NUMBERS]
+    ensures { result ≡ replicate NUMBERS (pos 0) }
+{
+    [0; NUMBERS]
 }

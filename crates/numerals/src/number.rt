@@ -4,11 +4,6 @@ ghost use Rattle.numerals.specs.Decimal.{digits, natural_of, below, integer_of};
 
 use lexer::bytes::number;
 
-// How far numbers of 32 bits go.
-const MOST_ABOVE: u32 = 2147483647;
-
-const MOST_BELOW: u32 = 2147483648;
-
 // The number that the word writes, if it writes one of at most `most`.
 pub fn natural(word: &[u8], most: u32) -> Option<u32>
     ensures { result ≡ natural_of most word.now }
@@ -30,8 +25,8 @@ pub fn integer(word: &[u8]) -> Option<i32>
     ensures { result ≡ integer_of word.now }
 {
     match word {
-        [b'-', digits @ ..] => negated(natural(digits, MOST_BELOW)?),
-        _ => i32::try_from(natural(word, MOST_ABOVE)?).ok(),
+        [b'-', digits @ ..] => negated(natural(digits, i32::MIN.unsigned_abs())?),
+        _ => i32::try_from(natural(word, i32::MAX.unsigned_abs())?).ok(),
     }
 }
 
@@ -43,5 +38,5 @@ fn negated(n: u32) -> Option<i32>
     if n == 0 {
         return None;
     }
-    i32::try_from(-(n as i64)).ok()
+    0i32.checked_sub_unsigned(n)
 }

@@ -104,6 +104,10 @@ items_size k (s.more r q x) = ap suc (items_size (learns k r) x)
 items_size k (s.broken n q) = refl
 items_size k s.over = refl
 
+-- what a cursor at the front of a text reads
+pub at_front : (p : ℕ) (bs text : List ℕ) → p ≡ 0 → bs ≡ text → asked (lex p bs) ≡ asked (lex 0 text)
+at_front p bs text e h = rw (e, h) refl
+
 pub begun : (text : List ℕ) (p : Parser) → length text ≤ 16384 → known_of p.names ≡ nothing → p.names.count ≡ 0 → p.count ≡ 0 → lex_meant (Ok p.lookahead) ≡ asked (lex 0 text) → Fresh text p
 begun text p h k few none e =
     let f = first 0 text p.lookahead e in

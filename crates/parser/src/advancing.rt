@@ -1,11 +1,11 @@
 // The parser's small steps.
-ghost use Rattle.std.specs.Prelude.{◌≡◌, ℕ, ◌+◌, ◌*◌, ◌<◌, ◌≤◌, true, false, length};
+ghost use Rattle.std.specs.Prelude.{◌≡◌, ◌+◌, ◌<◌, ◌≤◌, true, false, length};
 ghost use Rattle.grammar.specs.Tokens.{same};
 ghost use Rattle.grammar.specs.declared.symbols.Mark.TheVariants.{Stop};
-ghost use Rattle.lexer.specs.Lexemes.{meant, lex_meant};
+ghost use Rattle.lexer.specs.Lexemes.{meant};
 ghost use Rattle.lexer.specs.Scan.{is_stop};
-ghost use Rattle.parser.specs.Feeds.{ahead, next, unread, Ready};
-ghost use Rattle.parser.specs.Advancing.{is_mark, is_name, plain, refuses, Advanced, Expected, Named, Listed, Deepened, Opened};
+ghost use Rattle.parser.specs.Feeds.{next, Ready};
+ghost use Rattle.parser.specs.Advancing.{is_mark, plain, refuses, Advanced, Expected, Named, Listed, Deepened, Opened};
 ghost use Rattle.parser.specs.Fetching.{Fetches, Begun, counting};
 
 use crate::depth::{Depth, MAX_DEPTH};
@@ -22,12 +22,8 @@ impl<'a> Parser<'a> {
         requires { length text.now ≤ 16384 }
         ensures { Begun text.now result }
     {
-        let start = Cursor {
-            rest: text,
-            place: 0,
-        };
         Ok(Parser {
-            lookahead: start.next_limited()?,
+            lookahead: Cursor::new(text).next_limited()?,
             names: Names::new(),
             count: 0,
         })
@@ -120,8 +116,10 @@ impl<'a> Parser<'a> {
         ensures { Listed self.old table.old node place result self.new table.new }
     {
         let number = self.next_number();
-        if (number as usize) < table.len() {
-            table[number as usize] = Entry::new(node, place as u16);
+        let at = usize::from(number);
+        // by index: after a slice's get_mut a proof knows nothing of the element
+        if at < table.len() {
+            table[at] = Entry::new(node, place as u16);
         }
         number
     }

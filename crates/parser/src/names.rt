@@ -15,6 +15,7 @@ pub const MAX_NAMES: usize = 64;
 pub struct Names<'a> {
     pub words: [&'a [u8]; 64],
     pub count: usize,
+    // Whether the program's own name is read, which gets 0: the list knows it itself, as names are also read where the grammar is not followed.
     pub titled: bool,
 }
 

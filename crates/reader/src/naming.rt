@@ -30,10 +30,7 @@ pub fn names_of<'a>(text: &'a [u8]) -> Names<'a>
     if text.len() > MAX_TEXT {
         return names;
     }
-    let mut at = Cursor {
-        rest: text,
-        place: 0,
-    };
+    let mut at = Cursor::new(text);
     while let Ok(lexeme) = at.next_limited() {
         if !note(&mut names, lexeme.token) {
             return names;

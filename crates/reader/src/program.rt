@@ -1,6 +1,6 @@
 // A whole text. This module is internal: its function asks its caller for a parser at the beginning of a text.
-ghost use Rattle.std.specs.Prelude.{◌≡◌, ℕ, ◌+◌, ◌*◌, ◌<◌, ◌≤◌};
-ghost use Rattle.parser.specs.Feeds.{ahead, unread, Ready};
+ghost use Rattle.std.specs.Prelude.{◌≡◌};
+ghost use Rattle.parser.specs.Feeds.{Ready};
 ghost use Rattle.reader.specs.Program.{Whole};
 
 use commands::commands::cmds;

@@ -1,5 +1,4 @@
 // The code of commands.
-ghost use Rattle.std.specs.Prelude.{◌≡◌};
 ghost use Rattle.tosca.specs.Decode.{cmd_at};
 ghost use Rattle.draft.specs.Opening.{entries_of};
 ghost use Rattle.walk.specs.Readings.{types_of};

@@ -21,7 +21,8 @@ impl Emitter<'_> {
     fn write(&mut self, at: u16, node: u16, instruction: Instruction)
         ensures { Stores self.old at (coded node instruction ∷ []) 0 self.new }
     {
-        let at = at as usize;
+        let at = usize::from(at);
+        // by index: after a slice's get_mut a proof knows nothing of the element
         if at < self.table.len() {
             self.table[at] = CodeEntry::new(Coded { instruction, node });
         }

@@ -1,5 +1,4 @@
 // The code of expressions.
-ghost use Rattle.std.specs.Prelude.{◌≡◌};
 ghost use Rattle.tosca.specs.Decode.{expr_at};
 ghost use Rattle.draft.specs.Opening.{entries_of};
 ghost use Rattle.aida.specs.Templates.{expr_code};

@@ -12,7 +12,7 @@ use walk::types::Typing;
 // The first cell of the temporaries.
 pub(crate) const TEMPORARIES: u16 = 64;
 
-// The temporaries that are left while this one is in use.
+// The temporaries that are left while this one is in use. A function of its own, so that a wrong cell is refused here.
 pub(crate) fn next_cell(cell: u16) -> u16
     requires { cell < 96 }
     ensures { result ≡ suc cell }
@@ -27,7 +27,7 @@ pub(crate) struct Operands {
     pub(crate) last: u16,
 }
 
-// The right operand comes first, and is kept while the left is worked out.
+// The right operand comes first, and is kept while the left is worked out. A function of its own, so that another order is refused here.
 pub(crate) fn in_order(left: u16, right: u16) -> Operands
     ensures first { result.first ≡ right }
     ensures last { result.last ≡ left }

@@ -30,7 +30,7 @@ fn emit_all(routine: &Checked, table: &mut [CodeEntry]) -> usize
     let typing = Typing::of(draft);
     let mut emitter = Emitter { table, next: 0 };
     command(draft, &typing, body(draft), &mut emitter);
-    emitter.next as usize
+    usize::from(emitter.next)
 }
 
 // A table that does not hold all instructions is emptied.

@@ -1,5 +1,5 @@
 // A queue's calls.
-ghost use Rattle.std.specs.Prelude.{◌≡◌, ℕ, ◌+◌, ◌-◌, ◌<◌, ◌≤◌, []};
+ghost use Rattle.std.specs.Prelude.{◌≡◌, ◌<◌, ◌≤◌, []};
 ghost use Rattle.line.specs.Queues.{accepts, if_room, first, enqueued, dequeued};
 ghost use Rattle.line.specs.Places.{place};
 

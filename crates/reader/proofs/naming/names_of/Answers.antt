@@ -8,23 +8,23 @@ returns-then-not-note c =
     let bs = c.args.text.now in
     let l = c.loop-lexeme in
     let h = c.if-not-note.ensures in
-    let e = sym (ends_there l.at.1.0 l.at.0.now c.in-Ok.lexeme c.in-Ok.ensures l.names c.note.new.names h) ∙ l.invariant.0 ∙ sym (within bs c.if-text-gt-MAX_TEXT.false) in
+    let e = sym (ends_there l.at.place l.at.rest.now c.in-Ok.lexeme c.in-Ok.ensures l.names c.note.new.names h) ∙ l.invariant.0 ∙ sym (within bs c.if-text-gt-MAX_TEXT.false) in
     record { is = (e, h.0); spelled = spelled_as bs (known_of c.note.new.names) e }
 
 pub loop-lexeme-smaller : goal.loop-lexeme-smaller
 loop-lexeme-smaller c =
     let l = c.loop-lexeme in
-    takes l.at.1.0 l.at.0.now c.in-Ok.lexeme c.in-Ok.ensures l.names c.note.new.names c.if-not-note.ensures
+    takes l.at.place l.at.rest.now c.in-Ok.lexeme c.in-Ok.ensures l.names c.note.new.names c.if-not-note.ensures
 
 pub loop-lexeme-preserved : goal.loop-lexeme-preserved
 loop-lexeme-preserved c =
     let l = c.loop-lexeme in
     let h = c.if-not-note.ensures in
-    (sym (goes_on l.at.1.0 l.at.0.now c.in-Ok.lexeme c.in-Ok.ensures l.names c.note.new.names h) ∙ l.invariant.0, c.in-Ok.lexeme.end.fits, h.0)
+    (sym (goes_on l.at.place l.at.rest.now c.in-Ok.lexeme c.in-Ok.ensures l.names c.note.new.names h) ∙ l.invariant.0, h.0)
 
 pub returns : goal.returns
 returns c =
     let bs = c.args.text.now in
     let l = c.loop-lexeme in
-    let e = sym (ends_refused l.at.1.0 l.at.0.now (known_of l.names) c.in_default.field-0 c.in_default.ensures) ∙ l.invariant.0 ∙ sym (within bs c.if-text-gt-MAX_TEXT.false) in
-    record { is = (e, l.invariant.2); spelled = spelled_as bs (known_of l.names) e }
+    let e = sym (ends_refused l.at.place l.at.rest.now (known_of l.names) c.in_default.field-0 c.in_default.ensures) ∙ l.invariant.0 ∙ sym (within bs c.if-text-gt-MAX_TEXT.false) in
+    record { is = (e, l.invariant.1); spelled = spelled_as bs (known_of l.names) e }

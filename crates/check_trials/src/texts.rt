@@ -2,7 +2,7 @@
 use std::process::Abort;
 use verdict::editor::wisnoeur_verdict;
 
-// The verdict on the body of a routine that declares i and j as integers, b and c as booleans.
+// The verdict on each text.
 fn judged(rt: &impl Abort, cases: &[(&str, u32, usize)]) {
     for (text, number, place) in cases {
         let verdict = wisnoeur_verdict(text.as_bytes());

@@ -4,7 +4,7 @@ ghost use Rattle.draft.specs.Forming.{is_formed};
 
 use tosca::table::Entry;
 
-// A routine has at most so many nodes.
+// A routine has at most so many nodes. The reader has the number too: neither crate stands on the other.
 pub const MAX_NODES: usize = 1024;
 
 // Made by `open` alone. The first `count` nodes are the routine's; the others are blank.

@@ -7,7 +7,7 @@ ghost use Rattle.draft.specs.Nodes.{part_of};
 use crate::nodes::{Part, has_sort};
 use tosca::table::{Entry, Node};
 
-// A routine has at most so many names.
+// A routine has at most so many names, as the parser says too.
 const MAX_NAMES: u16 = 64;
 
 // A place is a position in a text of at most so many bytes.

@@ -4,7 +4,7 @@ ghost use Rattle.excerpts.specs.Shown.{shown_as};
 
 use std::fmt::{Display, Formatter, Result, Write};
 
-// As what a byte is shown.
+// As what a byte is shown: a value and no closure, since it is kept with the bytes until they are written.
 #[derive(Clone, Copy)]
 pub enum Style {
     // as it is, if it is a printable ASCII character or a tab

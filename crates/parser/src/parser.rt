@@ -2,6 +2,7 @@
 use crate::names::Names;
 use lexer::token::Lexeme;
 
+// That it is Ready is asked by its functions and is no ghost field: `emit` may list a node where there is no room for more.
 #[derive(Clone, Copy)]
 pub struct Parser<'a> {
     pub lookahead: Lexeme<'a>,

@@ -13,6 +13,7 @@ enum Field {
     Value,
 }
 
+// A table and no slice pattern, which would want the words of an item in a list.
 const INSTRUCTION: [Field; 6] = [
     Field::InstructionKind,
     Field::Operator,

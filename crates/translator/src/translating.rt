@@ -14,6 +14,7 @@ use checks::state::Checked;
 use code::table::{BLANK_CODE, CodeEntry};
 use walk::types::Typing;
 
+// One call of the library, as the reader's `clear` is over the other table.
 fn empty(table: &mut [CodeEntry])
     ensures { table.new ≡ replicate (length table.old) no_code }
 {

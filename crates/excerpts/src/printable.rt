@@ -19,7 +19,7 @@ impl Style {
     {
         match (self, b) {
             (_, b'\t') => '\t',
-            (Style::Text, b' '..=b'~') => b as char,
+            (Style::Text, b' '..=b'~') => char::from(b),
             (Style::Text, b'\r') => ' ',
             (Style::Text, _) => '?',
             (Style::Blank, _) => ' ',

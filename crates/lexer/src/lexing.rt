@@ -18,7 +18,7 @@ const NAME_LENGTH: usize = 16;
 fn symbol_token(b: u8) -> Option<Token<'static>>
     ensures { meant_some result ≡ others (symbol b) }
 {
-    match b as char {
+    match char::from(b) {
         '+' => Some(Token::Operator(Operator::Add(Adding::Plus))),
         '-' => Some(Token::Operator(Operator::Add(Adding::Minus))),
         '*' => Some(Token::Operator(Operator::Mul(Multiplying::Times))),

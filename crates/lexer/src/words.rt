@@ -21,6 +21,7 @@ pub fn same_word(a: &[u8], b: &[u8]) -> bool
 #[derive(Clone, Copy)]
 struct ReservedWord(&'static [u8], Token<'static>);
 
+// Searched from its first to its last, since a map would want a heap.
 const RESERVED: [ReservedWord; 42] = [
     ReservedWord(b"and", Token::Operator(Operator::Mul(Multiplying::And))),
     ReservedWord(b"array", Token::Unused),

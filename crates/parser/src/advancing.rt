@@ -124,7 +124,7 @@ impl<'a> Parser<'a> {
         number
     }
 
-    // Counts a node, and gives its number.
+    // Counts a node, and gives its number. That one more can be counted is asked of each call, as no Parser has it for good.
     fn next_number(&mut self) -> u16
         requires { self.old.count < 65535 }
         ensures { (result ≡ self.old.count) × (self.new ≡ counting self.old (self.old.count + 1)) }

@@ -18,7 +18,8 @@ pub struct Entry {
     pub place: u16,
 }
 
-// What an entry says: its kind with its fields. Parts are node numbers, the indexes of earlier entries.
+// What an entry says: its kind with its fields. Parts are node numbers, the indexes of earlier entries, since a table is a format
+// and no tree in a heap.
 #[derive(Clone, Copy, PartialEq, Debug)]
 pub enum Node {
     Decl(u16, SimpleType),

@@ -28,7 +28,7 @@ impl Emitter<'_> {
         }
     }
 
-    // Writes the next instruction. Each caller has the two parts, so a `Coded` would be longer at each call.
+    // Writes the next instruction. That there may be one more is asked of each call: after the last there is none. Each caller has the two parts, so a `Coded` would be longer at each call.
     pub(crate) fn emit(&mut self, node: u16, instruction: Instruction)
         requires { self.old.next < 2048 }
         ensures { Emitted self.old (coded node instruction ∷ []) self.new }

@@ -5,5 +5,4 @@ pub fn worked_examples()
     ensures empty { Empty }
     ensures writes { Writes }
     ensures refusals { Refusals }
-{
-}
+{}

@@ -1,13 +1,19 @@
 -- What the parser does at the front of the text that is left: it reads the next token.
 use Rattle.std.specs.Prelude.{◌≡◌, ℕ, ◌+◌, ◌≤◌, List, length, Ok, Err, Result}
+use Rattle.lexer.specs.declared.token.Lexeme.{Lexeme}
 use Rattle.lexer.specs.declared.token.Refusal.{Refusal}
 use Rattle.lexer.specs.Lexemes.{meant, number_of}
 use Rattle.lexer.specs.Scan.{scan, limit, limited}
 use Rattle.lexer.specs.Scan as s
 use Rattle.lexer.specs.Names.{nothing}
+use Rattle.parser.specs.declared.names.Names.{Names}
 use Rattle.parser.specs.declared.parser.Parser.{Parser}
 use Rattle.parser.specs.Feeds.{feed, known_of, written, ahead, Ready}
 use Rattle.parser.specs.Advancing.{broken}
+
+-- the parser with the lexeme as its next token
+abbrev pub onto : Lexeme → Names → ℕ → Parser
+onto l m c = record { lookahead = l; names = m; count = c }
 
 -- the parser with another count
 abbrev pub counting : Parser → ℕ → Parser

@@ -6,14 +6,14 @@ ghost use Rattle.lexer.specs.Lexemes.{meant};
 ghost use Rattle.lexer.specs.Scan.{is_stop};
 ghost use Rattle.parser.specs.Feeds.{next, Ready};
 ghost use Rattle.parser.specs.Advancing.{is_mark, plain, refuses, Advanced, Expected, Named, Listed, Deepened, Opened};
-ghost use Rattle.parser.specs.Fetching.{Fetches, Begun, counting};
+ghost use Rattle.parser.specs.Fetching.{Fetches, Begun, onto, counting};
 
 use crate::depth::{Depth, MAX_DEPTH};
 use crate::names::Names;
 use crate::parser::Parser;
 use grammar::symbols::{Mark, Prefix};
 use lexer::cursor::Cursor;
-use lexer::token::{Question, Refusal, Token};
+use lexer::token::{Lexeme, Question, Refusal, Token};
 use tosca::table::{Entry, Node};
 
 impl<'a> Parser<'a> {
@@ -22,11 +22,19 @@ impl<'a> Parser<'a> {
         requires { length text.now ≤ 16384 }
         ensures { Begun text.now result }
     {
-        Ok(Parser {
-            lookahead: Cursor::new(text).next_limited()?,
-            names: Names::new(),
+        let first = Cursor::new(text).next_limited()?;
+        Ok(Parser::at(first, Names::new()))
+    }
+
+    // The parser with the lexeme as its next, and no nodes.
+    fn at(lookahead: Lexeme<'a>, names: Names<'a>) -> Parser<'a>
+        ensures { result ≡ onto lookahead.entry names.entry 0 }
+    {
+        Parser {
+            lookahead,
+            names,
             count: 0,
-        })
+        }
     }
 
     // The refusal of the next token.
@@ -44,8 +52,16 @@ impl<'a> Parser<'a> {
         requires { (self.old.lookahead.end.place + length self.old.lookahead.end.rest.now ≤ 16384) × (is_stop (meant self.old.lookahead.token) ≡ false) }
         ensures { Fetches self.old self.new result }
     {
-        self.lookahead = self.lookahead.end.next_limited()?;
+        let lexeme = self.lookahead.end.next_limited()?;
+        self.put(lexeme);
         Ok(())
+    }
+
+    // Makes the lexeme the next.
+    fn put(&mut self, lexeme: Lexeme<'a>)
+        ensures { self.new ≡ onto lexeme.entry self.old.names self.old.count }
+    {
+        self.lookahead = lexeme;
     }
 
     // Goes on to the next token, from any but a name and the end.

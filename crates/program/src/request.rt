@@ -44,7 +44,7 @@ impl From<AllocError> for RequestError {
 }
 
 impl<'a> Request<'a> {
-    // The request of a line, if it is one that the edition has.
+    // What the line asks for, if the edition has it.
     pub fn parse(
         heap: Global,
         line: &'a [u8],
@@ -57,7 +57,7 @@ impl<'a> Request<'a> {
         Ok(request)
     }
 
-    // The request of a line in any edition.
+    // What the line asks for in any edition.
     fn parse_any(heap: Global, line: &'a [u8]) -> Result<Request<'a>, RequestError> {
         let line = std::str::from_utf8(line).map_err(|_| RequestError::Malformed)?;
         let words: Vec<&str> = line.split(' ').collect(heap)?;

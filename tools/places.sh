@@ -1,6 +1,6 @@
 #!/bin/bash
 # Counts, for each point of docs/DESIGN-PASS.md, the lines of crates/*/src where a place may stand, and lists them with
-# `tools/places.sh --list POINT`. It finds candidates: which of them are places, the page says.
+# `tools/places.sh --list NAME`. It finds candidates: which of them are places, the page says.
 # `tools/places.sh --at COMMIT` counts at a commit.
 set -euo pipefail
 cd "$(dirname "$0")/.."
@@ -16,7 +16,7 @@ while [ $# -gt 0 ]; do
             git archive "$2" crates | tar -x -C "$root"
             shift 2
             ;;
-        *) echo "usage: tools/places.sh [--at COMMIT] [--list POINT]" >&2; exit 2 ;;
+        *) echo "usage: tools/places.sh [--at COMMIT] [--list NAME]" >&2; exit 2 ;;
     esac
 done
 cd "$root"
@@ -24,8 +24,8 @@ cd "$root"
 # The sources that are no tests.
 mapfile -t sources < <(find crates/*/src -name '*.rt' | grep -vE '/(trials|check_trials|line_trials)/' | LC_ALL=C sort)
 
-# point NAME PATTERN [WHAT IT LEAVES OUT]
-point() {
+# count_lines NAME PATTERN [WHAT IT LEAVES OUT]
+count_lines() {
     local lines
     lines=$(grep -nE -- "$2" "${sources[@]}" | { if [ -n "${3:-}" ]; then grep -vE -- "$3"; else cat; fi } || true)
     if [ "$list" = "$1" ]; then
@@ -35,20 +35,20 @@ point() {
     fi
 }
 
-point 1-enums '^\s*(pub(\(crate\))? )?enum '
-point 1-numbers '=> [0-9]+,' 'rest|\[\]'
-point 1-codes '^(pub )?const [A-Z_]+: u8 ='
-point 1-flags '\) -> bool$|\) -> bool \{$|^\s*(pub(\(crate\))? )?[a-z_]+: bool,' 'fn (is|are|has|all)_|fn (is|has|holds|covers)\('
-point 1-laws '^pub fn [a-z_]*(laws|lengths|examples)\(\) -> u8'
-point 3-loops '^\s*(while|loop|for)\b'
-point 4-truths '=> (true|false),'
-point 4-conversions 'fn (code|from_code|number|operator|spelling|of)\((self|c: u8|number: i32|rejection: Rejection|value: Value)\)'
-point 4-passed-on 'Ok\((\w+)\) => Ok\(\1\)|Some\((\w+)\) => Some\(\2\)|None => None|Err\((\w+)\) => (return )?Err\('
-point 4-casts '\bas (u8|u16|u32|u64|usize|i32|i64|char)\b'
-point 5-requires '^\s*requires '
-point 5-travellers '\(?parser: &mut Parser<._>, table: &mut|text: &.a \[u8\], place: usize|draft: &Draft, reads: &\[u64\]|draft: &Draft, typing: &Typing'
-point 6-arrays '^\s*(pub(\(crate\))? )?[a-z_]+: \[.*; .*\],|static \[u8\], Token'
-point 7-switches 'fn (has|allows|character|fault)\('
+count_lines 1-enums '^\s*(pub(\(crate\))? )?enum '
+count_lines 1-numbers '=> [0-9]+,' 'rest|\[\]'
+count_lines 1-codes '^(pub )?const [A-Z_]+: u8 ='
+count_lines 1-flags '\) -> bool$|\) -> bool \{$|^\s*(pub(\(crate\))? )?[a-z_]+: bool,' 'fn (is|are|has|all)_|fn (is|has|holds|covers)\('
+count_lines 1-laws '^pub fn [a-z_]*(laws|lengths|examples)\(\) -> u8'
+count_lines 3-loops '^\s*(while|loop|for)\b'
+count_lines 4-truths '=> (true|false),'
+count_lines 4-conversions 'fn (code|from_code|number|operator|spelling|of)\((self|c: u8|number: i32|rejection: Rejection|value: Value)\)'
+count_lines 4-passed-on 'Ok\((\w+)\) => Ok\(\1\)|Some\((\w+)\) => Some\(\2\)|None => None|Err\((\w+)\) => (return )?Err\('
+count_lines 4-casts '\bas (u8|u16|u32|u64|usize|i32|i64|char)\b'
+count_lines 5-requires '^\s*requires '
+count_lines 5-travellers '\(?parser: &mut Parser<._>, table: &mut|text: &.a \[u8\], place: usize|draft: &Draft, reads: &\[u64\]|draft: &Draft, typing: &Typing'
+count_lines 6-arrays '^\s*(pub(\(crate\))? )?[a-z_]+: \[.*; .*\],|static \[u8\], Token'
+count_lines 7-switches 'fn (has|allows|character|fault)\('
 
 # Point 2: pairs of places that share six lines or more, by the tool `duplicates`, which reads files named .rs.
 if command -v duplicates >/dev/null && { [ -z "$list" ] || [ "$list" = 2-twins ]; }; then

@@ -1,7 +1,7 @@
 // 60 numbers in 120 registers of 16 bits: two registers to a number, the high one first, and each register's high byte first.
 ghost use Rattle.std.specs.Prelude.{◌≡◌, replicate};
 ghost use Rattle.line.specs.Cells.{register_cell};
-ghost use Rattle.line.specs.declared.bank.TheConstants.{NUMBERS, BYTES};
+ghost use Rattle.line.specs.declared.bank.TheConstants.{BYTES};
 ghost use Rattle.std.proofs.Common.{rules};
 
 use crate::cells::Cells;
@@ -18,7 +18,7 @@ pub struct Bank {
 impl Cells for Bank {
     const SIZE: usize = NUMBERS;
 
-    ghost SIZE = { NUMBERS };
+    ghost SIZE = { 60 };
 
     ghost cell = { register_cell };
 

@@ -16,7 +16,7 @@ pub struct Numbers {
 impl Cells for Numbers {
     const SIZE: usize = NUMBERS;
 
-    ghost SIZE = { NUMBERS };
+    ghost SIZE = { 64 };
 
     ghost cell = { number_cell };
 

@@ -1,23 +1,22 @@
 -- The questions of known entries and of their parts, as tests of each entry and of each part.
-use Rattle.std.proofs.Common.{◌≡◌, ℕ, suc, Bool, true, false, ◌&&◌, List, [], ◌∷◌, map, sym, subst, refl, ap, ◌∙◌, add-one}
-use Rattle.std.specs.List.{list_all, enumerate_from}
-use Rattle.std.specs.Array.Iter.{array_into_iter_items, array_steps}
-use Rattle.std.specs.declared.array.IntoIter.{IntoIter}
-use Rattle.std.proofs.lemmas.Iterator.{YieldsList}
-use Rattle.std.proofs.lemmas.Iterator.Consumers.{YieldsList-from_shown}
+use Rattle.std.proofs.Common.{◌≡◌, ℕ, suc, Bool, true, false, ◌&&◌, List, [], ◌∷◌, map, Some, None, Option, sym, refl, ap, ◌∙◌, add-one}
+use Rattle.std.specs.List.{list_all, enumerate_from, flat_map}
+use Rattle.std.specs.Option.{option_to_list}
 use Rattle.tosca.specs.declared.table.Entry.{Entry}
 use Rattle.tosca.specs.Table.{node}
 use Rattle.tosca.specs.Opens.{placed, are_placed, parts}
 use Rattle.draft.specs.declared.nodes.Part.{Part as NodePart}
 use Rattle.draft.specs.Nodes.{part_of}
 
--- what an array's iterator gives
-pub YieldsList-from_array : {A : Type 0} {n : ℕ} {s : IntoIter A n} (xs : List A) → array_into_iter_items s ≡ xs → YieldsList array_steps (λ x. x) s xs
-YieldsList-from_array {A} {n} {s} xs e = subst (YieldsList array_steps (λ x. x) s) e (YieldsList-from_shown array_steps (λ x. x) array_into_iter_items (λ s t h. h.0) (λ s x t h. h) s)
+-- a part that an entry may have
+abbrev pub placed_part : List Entry → ℕ → Option NodePart → Bool
+placed_part t k None = true
+placed_part t k (Some p) = placed t k (part_of p ∷ [])
 
-pub placed_all : (t : List Entry) (k : ℕ) (ps : List NodePart) → placed t k (map part_of ps) ≡ list_all (λ p. placed t k (part_of p ∷ [])) ps
-placed_all t k [] = refl
-placed_all t k (p ∷ ps) = go _ (placed t k (map part_of ps)) ∙ ap (λ b. placed t k (part_of p ∷ []) && b) (placed_all t k ps)
+pub placed_parts : (t : List Entry) (k : ℕ) (ps : List (Option NodePart)) → placed t k (map part_of (flat_map option_to_list ps)) ≡ list_all (placed_part t k) ps
+placed_parts t k [] = refl
+placed_parts t k (None ∷ ps) = placed_parts t k ps
+placed_parts t k (Some p ∷ ps) = go _ (placed t k (map part_of (flat_map option_to_list ps))) ∙ ap (λ b. placed t k (part_of p ∷ []) && b) (placed_parts t k ps)
   where
     go : (x y : Bool) → (x && y) ≡ ((x && true) && y)
     go true y = refl

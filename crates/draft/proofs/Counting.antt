@@ -1,5 +1,7 @@
 -- Counting the uses of each node as a part.
-use Rattle.std.proofs.Common.{◌≡◌, ℕ, ◌+◌, ◌<◌, ◌≤◌, min, cond, eqb, ◌⊎◌, List, [], ◌∷◌, ◌++◌, length, map, get_or, take, set, replicate, sym, ap, ◌∙◌, inl, inr, arith, get_or-set_other, get_or-set_same}
+use Rattle.std.proofs.Common.{◌≡◌, ℕ, ◌+◌, ◌<◌, ◌≤◌, min, cond, eqb, ◌⊎◌, List, [], ◌∷◌, ◌++◌, length, map, get_or, take, set, replicate, Some, None, Option, sym, ap, ◌∙◌, inl, inr, arith, get_or-set_other, get_or-set_same}
+use Rattle.std.specs.List.{flat_map}
+use Rattle.std.specs.Option.{option_to_list}
 use Rattle.std.proofs.lemmas.List.{take_more, length-set, get_or-replicate, length-replicate}
 use Rattle.std.proofs.lemmas.Bool.{eq-eqb, ne_eqb, cases_eq}
 use Rattle.tosca.specs.declared.table.Entry.{Entry}
@@ -37,9 +39,24 @@ count_past us p le f h k kt =
     let old = h k kt in
     omega arith
 
-pub uses_further : (k : ℕ) (ps : List NodePart) (p : NodePart) → uses k (map part_of ps) + uses k (part_of p ∷ []) ≡ uses k (map part_of (ps ++ p ∷ []))
-uses_further k [] p = omega arith
-uses_further k (q ∷ ps) p = omega (arith, uses_further k ps p)
+-- how often k is one of the first i parts
+abbrev pub uses_to : List (Option NodePart) → ℕ → ℕ → ℕ
+uses_to ps i k = uses k (map part_of (flat_map option_to_list (take i ps)))
+
+parts_append : (k : ℕ) (xs ys : List (Option NodePart)) → uses k (map part_of (flat_map option_to_list (xs ++ ys))) ≡ uses k (map part_of (flat_map option_to_list xs)) + uses k (map part_of (flat_map option_to_list ys))
+parts_append k [] ys = omega arith
+parts_append k (None ∷ xs) ys = parts_append k xs ys
+parts_append k (Some p ∷ xs) ys = omega (arith, parts_append k xs ys)
+
+module _ (ps : List (Option NodePart)) (i : ℕ) (h : i < length ps) (k : ℕ) where
+  next_part : uses_to ps (i + 1) k ≡ uses_to ps i k + uses k (map part_of (flat_map option_to_list (get_or ps i None ∷ [])))
+  next_part = ap (λ (xs : List (Option NodePart)). uses k (map part_of (flat_map option_to_list xs))) (take_more ps i None h) ∙ parts_append k (take i ps) (get_or ps i None ∷ [])
+
+  pub one_further : (p : NodePart) → get_or ps i None ≡ Some p → uses_to ps i k + uses k (part_of p ∷ []) ≡ uses_to ps (i + 1) k
+  one_further p e = omega (arith, next_part, ap (λ (o : Option NodePart). uses k (map part_of (flat_map option_to_list (o ∷ [])))) e)
+
+  pub none_further : get_or ps i None ≡ None → uses_to ps i k ≡ uses_to ps (i + 1) k
+  none_further e = omega (arith, next_part, ap (λ (o : Option NodePart). uses k (map part_of (flat_map option_to_list (o ∷ [])))) e)
 
 all_uses_append : (k : ℕ) (xs ys : List Entry) → all_uses k (xs ++ ys) ≡ all_uses k xs + all_uses k ys
 all_uses_append k [] ys = omega arith

@@ -37,16 +37,20 @@ opened_is t n e =
     let bounds = and_parts (leb n 1024) (leb n (length t)) (and_parts (leb 1 n) _ q.0).1 in
     record { few = leb-true n 1024 bounds.0; within = leb-true n (length t) bounds.1; formed = formed_is (take n t) q.1 }
 
--- the nodes of the draft of the first n entries, where these open and ys are copied to the front of blank ones
-module _ (t ys : List Entry) (n : ℕ) (e : ys ≡ take n t) (o : opening t n ≡ opened) where
-  abbrev pub nodes : List Entry
-  nodes = ys ++ drop n (replicate 1024 blank)
+-- what a copy to the front of blank entries leaves
+pub padded_is : (t ys : List Entry) → ys ≡ t → ys ++ drop (length t) (replicate 1024 blank) ≡ t ++ replicate (1024 - length t) blank
+padded_is t ys e = ap (λ l. l ++ drop (length t) (replicate 1024 blank)) e ∙ ap (λ l. t ++ l) (drop-replicate (length t) 1024 blank)
+
+-- the nodes of the draft of the first n entries, where these open
+module _ (t nodes : List Entry) (n : ℕ) (e : nodes ≡ take n t ++ replicate (1024 - length (take n t)) blank) (o : opening t n ≡ opened) where
+  long : length (take n t) ≡ n
+  long = length-take-le n t (opened_is t n o).within
 
   pub nodes_are : nodes ≡ take n t ++ replicate (1024 - n) blank
-  nodes_are = ap (λ l. l ++ drop n (replicate 1024 blank)) e ∙ ap (λ l. take n t ++ l) (drop-replicate n 1024 blank)
+  nodes_are = e ∙ ap (λ k. take n t ++ replicate (1024 - k) blank) long
 
   first_are : take n nodes ≡ take n t
-  first_are = ap (take n) nodes_are ∙ take_at (take n t) _ n (length-take-le n t (opened_is t n o).within)
+  first_are = ap (take n) nodes_are ∙ take_at (take n t) _ n long
 
   pub nodes_formed : is_formed (take n nodes) ≡ true
   nodes_formed = ap is_formed first_are ∙ (opened_is t n o).formed

@@ -1,7 +1,8 @@
 // The question of the order of a table's entries.
-ghost use Rattle.std.specs.Prelude.{◌≡◌, ℕ, ◌+◌, ◌≤◌, length};
+ghost use Rattle.std.specs.Prelude.{◌≡◌, ℕ, ◌+◌, ◌≤◌, [], ◌∷◌, length};
 ghost use Rattle.tosca.specs.Table.{node as node_of};
 ghost use Rattle.tosca.specs.Opens.{sort as sort_in, parts as parts_in, uses as uses_in, all_uses, are_once, decls_first, program_last, arranged};
+ghost use Rattle.draft.specs.Nodes.{part_of};
 ghost use Rattle.draft.specs.Uses.{Counts, used_once};
 
 use crate::draft::MAX_NODES;
@@ -33,12 +34,21 @@ fn is_program_last(entries: &[Entry]) -> bool
 fn count_parts(uses: &mut [u8], entry: &Entry)
     ensures { (f : ℕ → ℕ) → Counts uses.old f → Counts uses.new (λ k. f k + uses_in k (parts_in (node_of entry.now))) }
 {
-    for part in Part::all_of(entry).into_iter().flatten() {
-        let at = usize::from(part.at);
-        if at < uses.len() {
-            // by index: a proof knows nothing of the element after a slice's get_mut
-            uses[at] = uses[at].saturating_add(1);
+    let parts = Part::all_of(entry);
+    for part in &parts {
+        if let Some(part) = part {
+            count_part(uses, part);
         }
+    }
+}
+
+fn count_part(uses: &mut [u8], part: &Part)
+    ensures { (f : ℕ → ℕ) → Counts uses.old f → Counts uses.new (λ k. f k + uses_in k (part_of part.now ∷ [])) }
+{
+    let at = usize::from(part.at);
+    if at < uses.len() {
+        // by index: a proof knows nothing of the element after a slice's get_mut
+        uses[at] = uses[at].saturating_add(1);
     }
 }
 

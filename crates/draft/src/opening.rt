@@ -1,5 +1,6 @@
 // Opening a node table.
-ghost use Rattle.std.specs.Prelude.{◌≡◌, ◌≤◌, true, false, length, take, Ok, Err, MatchResult, if◌then◌else◌};
+ghost use Rattle.std.specs.Prelude.{◌≡◌, ◌-◌, ◌≤◌, ◌++◌, true, false, length, replicate, take, Ok, Err, MatchResult, if◌then◌else◌};
+ghost use Rattle.tosca.specs.Table.{blank};
 ghost use Rattle.tosca.specs.Opens.{counted, opening, opened};
 ghost use Rattle.draft.specs.Opening.{entries_of, answered, Made};
 
@@ -14,6 +15,16 @@ fn require(yes: bool, refusal: Malformed) -> Result<(), Malformed>
     ensures { result ≡ (if yes then Ok tt else Err refusal) }
 {
     if yes { Ok(()) } else { Err(refusal) }
+}
+
+// The entries, then blank ones. A function of its own, so that they are written where the draft has them, and not copied there.
+fn padded(entries: &[Entry]) -> [Entry; MAX_NODES]
+    requires { length entries.now ≤ 1024 }
+    ensures { result ≡ entries.now ++ replicate (1024 - length entries.now) blank }
+{
+    let mut nodes = [BLANK; MAX_NODES];
+    nodes[..entries.len()].copy_from_slice(entries);
+    nodes
 }
 
 // A table, of which the first `count` entries may be a routine.
@@ -48,10 +59,8 @@ impl<'a> Candidate<'a> {
         requires { opening self.table.now self.count ≡ opened }
         ensures { Made self.entry.table.now self.entry.count (Ok result) }
     {
-        let mut nodes = [BLANK; MAX_NODES];
-        nodes[..self.count].copy_from_slice(&self.table[..self.count]);
         Draft {
-            nodes,
+            nodes: padded(&self.table[..self.count]),
             count: self.count,
         }
     }

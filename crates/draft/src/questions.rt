@@ -48,10 +48,8 @@ fn is_part_placed(entries: &[Entry], k: usize, part: Part) -> bool
 fn is_placed(entries: &[Entry], k: usize, entry: &Entry) -> bool
     ensures { result ≡ placed entries.now k (parts_in (node_of entry.now)) }
 {
-    Part::all_of(entry)
-        .into_iter()
-        .flatten()
-        .all(|part| is_part_placed(entries, k, part))
+    // by reference: an array's own iterator moves each part twice
+    Part::all_of(entry).iter().all(|part| part.is_none_or(|part| is_part_placed(entries, k, part)))
 }
 
 // Every part stands earlier and has its sort.

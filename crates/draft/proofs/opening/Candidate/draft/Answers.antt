@@ -6,12 +6,10 @@ pub invariant_of-result : goal.invariant_of-result
 invariant_of-result c =
     let t = c.args.self.table.now in
     let n = c.args.self.count in
-    record { few = (opened_is t n c.requires).few; formed = nodes_formed t c.copy_from_slice.new.self n c.copy_from_slice.ensures.after c.requires }
+    record { few = (opened_is t n c.requires).few; formed = nodes_formed t c.padded.result n c.padded.ensures c.requires }
 
 pub returns : goal.returns
 returns c =
     let t = c.args.self.table.now in
     let n = c.args.self.count in
-    let ys = c.copy_from_slice.new.self in
-    let after = c.copy_from_slice.ensures.after in
-    (refl, nodes_are t ys n after c.requires, nodes_tree t ys n after c.requires)
+    (refl, nodes_are t c.padded.result n c.padded.ensures c.requires, nodes_tree t c.padded.result n c.padded.ensures c.requires)

@@ -9,7 +9,7 @@ abbrev pub onward : ℕ → ℕ → List ℕ → Option ℕ
 onward most n ds = cond (leb (value_from n ds) most) (Some (value_from n ds)) None
 
 -- more digits never spell less
-value_grows : (n : ℕ) (ds : List ℕ) → n ≤ value_from n ds
+pub value_grows : (n : ℕ) (ds : List ℕ) → n ≤ value_from n ds
 value_grows n [] = omega arith
 value_grows n (d ∷ ds) = let h = value_grows (10 * n + (d - 48)) ds in omega arith
 

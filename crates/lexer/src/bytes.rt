@@ -41,11 +41,12 @@ pub fn number(digits: &[u8], most: u32) -> Option<u32>
 }
 
 // The number with one digit more, or nothing where it is above `most`.
-fn with_digit(n: u32, b: u8, most: u32) -> Option<u32>
+pub fn with_digit(n: u32, b: u8, most: u32) -> Option<u32>
     ensures { result ≡ longer most n b }
 {
-    let n = n
-        .checked_mul(10)?
-        .checked_add(u32::from(b.saturating_sub(b'0')))?;
-    (n <= most).then_some(n)
+    let n = 10 * u64::from(n) + u64::from(b.saturating_sub(b'0'));
+    if n > u64::from(most) {
+        return None;
+    }
+    Some(n as u32)
 }

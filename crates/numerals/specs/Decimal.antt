@@ -1,5 +1,5 @@
 -- Numbers in words.
-use Rattle.std.specs.Prelude.{ℕ, zero, suc, Bool, cond, ◌&&◌, List, [], ◌∷◌, ℤ, pos, negsuc, Some, None, Option, ◌==◌, nat_le}
+use Rattle.std.specs.Prelude.{ℕ, zero, suc, ◌+◌, ◌-◌, ◌*◌, Bool, cond, ◌&&◌, List, [], ◌∷◌, ℤ, pos, negsuc, Some, None, Option, ◌==◌, nat_le}
 use Rattle.std.specs.List.{list_all}
 use Rattle.lexer.specs.Spelling.{digit, value}
 
@@ -10,6 +10,10 @@ digits bs = list_all digit bs
 abbrev pub natural_of : ℕ → List ℕ → Option ℕ
 natural_of most [] = None
 natural_of most (b ∷ bs) = cond (digits (b ∷ bs) && nat_le (value (b ∷ bs)) most) (Some (value (b ∷ bs))) None
+
+-- a number with a byte more, if it is a digit and the number is at most this
+abbrev pub longer : ℕ → ℕ → ℕ → Option ℕ
+longer most n b = cond (digit b && nat_le (10 * n + (b - 48)) most) (Some (10 * n + (b - 48))) None
 
 -- a number above 0 below it, and no other
 abbrev pub below : Option ℕ → Option ℤ

@@ -1,23 +1,32 @@
 // Numbers in words: decimal digits, with a minus in front if below 0.
 ghost use Rattle.std.specs.Prelude.{◌≡◌, ◌≤◌, Some};
-ghost use Rattle.numerals.specs.Decimal.{digits, natural_of, below, integer_of};
+ghost use Rattle.numerals.specs.Decimal.{natural_of, longer, below, integer_of};
 
-use lexer::bytes::number;
+use lexer::bytes;
 
 // The number that the word writes, if it writes one of at most `most`.
 pub fn natural(word: &[u8], most: u32) -> Option<u32>
     ensures { result ≡ natural_of most word.now }
 {
-    if word.is_empty() || !all_digits(word) {
+    if word.is_empty() {
         return None;
     }
-    number(word, most)
+    let mut n = 0;
+    // up to the first byte that is no digit, or makes the number too large
+    for b in word {
+        n = with_digit(n, *b, most)?;
+    }
+    Some(n)
 }
 
-fn all_digits(word: &[u8]) -> bool
-    ensures { result ≡ digits word.now }
+// The number with one digit more, if the byte is a digit and the number stays at most `most`.
+fn with_digit(n: u32, b: u8, most: u32) -> Option<u32>
+    ensures { result ≡ longer most n b }
 {
-    word.iter().all(|b| b.is_ascii_digit())
+    if !b.is_ascii_digit() {
+        return None;
+    }
+    bytes::with_digit(n, b, most)
 }
 
 // The number of 32 bits that the word writes.

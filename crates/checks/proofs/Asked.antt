@@ -1,7 +1,7 @@
 -- What the passes ask is what the rules choose. Assumes nothing.
-use Rattle.std.proofs.Common.{◌≡◌, ℕ, ◌+◌, ◌<◌, ◌≤◌, Bool, true, false, not, ltb, List, length, get_or, replicate, Some, None, Ok, Err, Option, sym, refl, ap, ◌∙◌, ap₂, zero-add, arith}
+use Rattle.std.proofs.Common.{◌≡◌, ℕ, ◌+◌, ◌<◌, ◌≤◌, Bool, true, not, ltb, List, length, get_or, replicate, take, Some, None, Ok, Err, Option, sym, refl, ap, ◌∙◌, ap₂, zero-add, arith}
 use Rattle.std.specs.List.{position_from}
-use Rattle.std.proofs.lemmas.List.{get_or-replicate, length-replicate, get_or_past}
+use Rattle.std.proofs.lemmas.List.{get_or-replicate, length-replicate, get_or-take, length-take-le}
 use Rattle.tosca.specs.declared.operators.SimpleType.{SimpleType}
 use Rattle.tosca.specs.declared.table.Entry.{Entry}
 use Rattle.tosca.specs.declared.table.Node.{Node}
@@ -26,7 +26,7 @@ use Rattle.walk.specs.Walking.{IsExpr, if_expr, answer_at, filled_by, filled}
 use Rattle.walk.proofs.Filling.{length_filled, filled_get_d, filled_expr, expr_within}
 use Rattle.walk.proofs.Meanings.{verdicts_filled}
 use Rattle.checks.specs.Asking.{is_wrong, differ, names_undeclared, is_ill_typed, of_node}
-use Rattle.checks.proofs.Firsts.{first_same, first_scanned, first_past}
+use Rattle.checks.proofs.Firsts.{first_same, first_scanned}
 
 -- the first node that a test finds is the lowest chosen, where the test says what the choice says
 first_chosen : (t : List Entry) (f : Expr ℕ → Bool) (g : Cmd ℕ → Bool) (h : ℕ → Bool) → ((k : ℕ) → k < length t → chooses f g t k ≡ h k) → first_of h 0 (length t) ≡ first_of (chooses f g t) 0 (length t)
@@ -98,21 +98,19 @@ needs_at : (t : List Entry) (k : ℕ) (s : Sort) → ltb 32 (if_expr s (need (ex
 needs_at t k is_expr = refl
 needs_at t k _ = refl
 
-none_past : (t : List Entry) (k : ℕ) → length t ≤ k → chooses is_too_large no_cmd t k ≡ false
-none_past t k h = ap (λ (e : Entry). chooses_as is_too_large no_cmd t k (sort (node e))) (get_or_past t k blank h)
-
-pub temporaries_asked : (t : List Entry) (formed : is_formed t ≡ true) (on : List ℕ) → on ≡ filled_by need t 0 (replicate 1024 0) → length t ≤ 1024 → position_from (ltb 32) 0 on ≡ lowest (faults Temporaries (program_of t))
+pub temporaries_asked : (t : List Entry) (formed : is_formed t ≡ true) (on : List ℕ) → on ≡ filled_by need t 0 (replicate 1024 0) → length t ≤ 1024 → position_from (ltb 32) 0 (take (length t) on) ≡ lowest (faults Temporaries (program_of t))
 temporaries_asked t formed on is few =
-    let long : length on ≡ 1024 = ap length is ∙ length_filled need t 0 (replicate 1024 0) ∙ length-replicate {A = ℕ} 1024 0 in
-    let at : (k : ℕ) → k < length on → ltb 32 (get_or on k 0) ≡ chooses is_too_large no_cmd t (0 + k) =
+    let all : length on ≡ 1024 = ap length is ∙ length_filled need t 0 (replicate 1024 0) ∙ length-replicate {A = ℕ} 1024 0 in
+    let long : length (take (length t) on) ≡ length t = length-take-le (length t) on (omega (arith, all, few)) in
+    let at : (k : ℕ) → k < length (take (length t) on) → ltb 32 (get_or (take (length t) on) k 0) ≡ chooses is_too_large no_cmd t (0 + k) =
     λ k lt.
-    let inside : k < length {A = ℕ} (replicate 1024 0) = omega (arith, length-replicate {A = ℕ} 1024 0) in
-    ap (λ (ys : List ℕ). ltb 32 (get_or ys k 0)) is
-    ∙ ap (ltb 32) (filled_get_d need t (replicate 1024 0) k 0 inside ∙ ap (λ (a : ℕ). answer_at need t k a) (get_or-replicate {A = ℕ} 1024 k 0 0 (omega (arith, long))))
+    let inside : k < length {A = ℕ} (replicate 1024 0) = omega (arith, length-replicate {A = ℕ} 1024 0, long, few) in
+    ap (ltb 32) (get_or-take (length t) on k 0 (omega (arith, long)))
+    ∙ ap (λ (ys : List ℕ). ltb 32 (get_or ys k 0)) is
+    ∙ ap (ltb 32) (filled_get_d need t (replicate 1024 0) k 0 inside ∙ ap (λ (a : ℕ). answer_at need t k a) (get_or-replicate {A = ℕ} 1024 k 0 0 (omega (arith, long, few))))
     ∙ needs_at t k (sort (node (get_or t k blank)))
     ∙ ap (chooses is_too_large no_cmd t) (sym (zero-add k))
     in
-    first_scanned (ltb 32) (chooses is_too_large no_cmd t) 0 on 0 at
+    first_scanned (ltb 32) (chooses is_too_large no_cmd t) 0 (take (length t) on) 0 at
     ∙ ap (first_of (chooses is_too_large no_cmd t) 0) long
-    ∙ first_past (chooses is_too_large no_cmd t) 0 (length t) 1024 few (λ k le. none_past t k (omega arith))
     ∙ sym (scanned is_too_large no_cmd t formed)

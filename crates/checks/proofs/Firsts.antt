@@ -1,7 +1,6 @@
 -- Going through numbers for the first that a test chooses. Assumes nothing.
-use Rattle.std.proofs.Common.{◌≡◌, ℕ, zero, suc, ◌+◌, ◌<◌, ◌≤◌, Bool, false, cond, List, [], ◌∷◌, length, get_or, Some, Option, sym, refl, ap, ◌∙◌, add-zero, add-one, arith}
+use Rattle.std.proofs.Common.{◌≡◌, ℕ, zero, suc, ◌+◌, ◌<◌, ◌≤◌, Bool, cond, List, [], ◌∷◌, length, get_or, Some, Option, sym, refl, ap, ◌∙◌, add-zero, add-one, arith}
 use Rattle.std.specs.List.{find, position_from, range_with_len}
-use Rattle.std.proofs.lemmas.Bool.{cond-false}
 use Rattle.std.specs.Option.{option_map}
 use Rattle.std.proofs.lemmas.Iterator.Adapters.{option_map_id}
 use Rattle.statics.specs.Scanning.{first_of}
@@ -31,10 +30,3 @@ first_scanned p f i (x ∷ xs) d h =
     first_scanned p f (i + 1) xs d (λ k lt. h (suc k) (omega arith) ∙ ap f (omega arith)) ∙ ap (λ (j : ℕ). first_of f j (length xs)) (add-one i)
     in
     λ j. cond (here j) (Some i) (rest j)
-
--- past the last number that is chosen
-pub first_past : (f : ℕ → Bool) (i n m : ℕ) → n ≤ m → ((k : ℕ) → i + n ≤ k → f k ≡ false) → first_of f i m ≡ first_of f i n
-first_past f i zero zero le h = refl
-first_past f i zero (suc m) le h = cond-false (f i) (Some i) (first_of f (suc i) m) (h i (omega arith)) ∙ first_past f (suc i) zero m (omega arith) (λ k low. h k (omega arith))
-first_past f i (suc n) zero le h = absurd (omega arith)
-first_past f i (suc n) (suc m) le h = ap (λ (o : Option ℕ). cond (f i) (Some i) o) (first_past f (suc i) n m (omega arith) (λ k low. h k (omega arith)))

@@ -1,9 +1,10 @@
 // Asking the static rules.
-ghost use Rattle.std.specs.Prelude.{◌≡◌, [], ◌∷◌, Ok};
+ghost use Rattle.std.specs.Prelude.{◌≡◌, true, [], ◌∷◌, Ok};
 ghost use Rattle.draft.specs.Opening.{tree_of};
 ghost use Rattle.statics.specs.declared.rules.Rule.TheVariants.{DeclaredOnce, Declared, Typed, Set, Temporaries};
 ghost use Rattle.statics.specs.Checking.{asked, first_no, checking as checking_of};
 ghost use Rattle.statics.specs.StaticLaws.{Judged};
+ghost use Rattle.checks.specs.Passing.{is_passed};
 ghost use Rattle.checks.specs.Outcomes.{outcome_of, Kept};
 
 use crate::declarations::{repeated_name, undeclared_name};
@@ -40,6 +41,13 @@ pub fn check(draft: &Draft) -> Result<(), Violation>
     ask_all(draft)
 }
 
+fn make(draft: Draft) -> Checked
+    requires { is_passed (tree_of draft) ≡ true }
+    ensures { result.draft ≡ draft }
+{
+    Checked { draft }
+}
+
 // Takes a draft that passes; one that does not comes back as it was, with the violation.
 pub fn pass(draft: Draft) -> Result<Checked, (Draft, Violation)>
     ensures is { outcome_of result ≡ checking_of (tree_of draft) }
@@ -47,7 +55,7 @@ pub fn pass(draft: Draft) -> Result<Checked, (Draft, Violation)>
     ensures judged { Judged (tree_of draft) (outcome_of result) }
 {
     match check(&draft) {
-        Ok(()) => Ok(Checked { draft }),
+        Ok(()) => Ok(make(draft)),
         Err(violation) => Err((draft, violation)),
     }
 }

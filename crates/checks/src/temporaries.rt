@@ -24,6 +24,9 @@ pub(crate) fn too_large(draft: &Draft) -> Option<u16>
     // No call allocates, so a draft's nodes have room in an array.
     let mut needs = [0; MAX_NODES];
     temporaries(draft, &mut needs);
-    let found = needs.iter().position(|need| too_many(*need));
+    let entries = draft.entries();
+    let found = needs[..entries.len()]
+        .iter()
+        .position(|need| too_many(*need));
     found.map(|n| n as u16)
 }

@@ -1,6 +1,7 @@
 // Mounting a code table.
 ghost use Rattle.std.specs.Prelude.{◌≡◌, ◌-◌, ◌≤◌, ◌++◌, length, replicate, slice_index_or};
 ghost use Rattle.std.proofs.Math.ListN.{get_elem?};
+ghost use Rattle.std.specs.List.{slice_get};
 ghost use Rattle.code.specs.Questions.{blank_coded, said_by_all, mounting as mounting_of, mounts};
 ghost use Rattle.code.specs.Mounting.{answered, code_of, Holds, Made, found, Within};
 
@@ -24,6 +25,13 @@ fn decoded(entries: &[CodeEntry]) -> [Coded; MAX_INSTRUCTIONS]
     ensures { result ≡ said_by_all entries.now ++ replicate (2048 - length entries.now) blank_coded }
 {
     array::from_fn(|k| said_at(entries, k))
+}
+
+// The instruction at a counter, if the code goes so far. A function of its own, so that one too few is refused here.
+fn at(code: &[Coded], counter: usize) -> Option<Coded>
+    ensures { result ≡ slice_get code.now counter }
+{
+    code.get(counter).copied()
 }
 
 impl Mounted {
@@ -57,7 +65,7 @@ impl Mounted {
         ensures is { result ≡ found (get_elem? (code_of self.now) counter) }
         ensures within { Within self.now result }
     {
-        self.instructions().get(counter).copied()
+        at(self.instructions(), counter)
     }
 }
 

@@ -36,7 +36,7 @@ impl Display for Position {
 fn line_feeds(bytes: &[u8]) -> usize
     ensures { (result ≡ count_by feed bytes.now) × (result ≤ length bytes.now) }
 {
-    bytes.iter().filter(|b| **b == b'\n').count()
+    bytes.iter().map(|b| usize::from(*b == b'\n')).sum()
 }
 
 // Where the line of the offset starts.

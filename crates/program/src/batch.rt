@@ -16,20 +16,18 @@ use std::{fmt, io, mem};
 use tosca::table::{BLANK, Entry};
 use verdict::editor::{Verdict, wisnoeur_verdict};
 
-// What is kept from line to line. The count is the caller's, and may be more than the table has.
+// What is kept from line to line. There is a count once a table is read, or put in by hand; it is the caller's, and may be more than the table has.
 #[derive(Drop)]
 struct Session {
     table: Vec<Entry>,
-    count: usize,
+    count: Option<usize>,
     stage: Stage,
 }
 
-// How far the kept routine has come.
+// How far the routine of the table has come.
 #[derive(Drop)]
 enum Stage {
-    Nothing,
-    // a table that is read, or put in by hand
-    Table,
+    Unopened,
     Opened(Draft),
     Passed(Checked),
 }
@@ -93,8 +91,8 @@ impl Session {
     fn new(heap: Global) -> Session {
         Session {
             table: Vec::new(heap),
-            count: 0,
-            stage: Stage::Nothing,
+            count: None,
+            stage: Stage::Unopened,
         }
     }
 
@@ -130,10 +128,7 @@ impl Session {
     fn read<'a>(&'a mut self, cap: usize, text: &[u8]) -> Result<Answer<'a>, AllocError> {
         self.clear(cap)?;
         let outcome = reading::read(text, &mut self.table);
-        if let Ok(count) = outcome {
-            self.count = count;
-            self.stage = Stage::Table;
-        }
+        self.count = outcome.ok();
         Ok(Answer::Read(outcome))
     }
 
@@ -150,35 +145,41 @@ impl Session {
         self.clear(0)?;
         self.table = entries;
         self.table.resize(cap, BLANK)?;
-        self.count = count;
-        self.stage = Stage::Table;
+        self.count = Some(count);
         Ok(Answer::Raw)
     }
 
     // Makes the table one of `cap` entries, without nodes.
     fn clear(&mut self, cap: usize) -> Result<(), AllocError> {
-        self.stage = Stage::Nothing;
-        self.count = 0;
+        self.close();
+        self.count = None;
         self.table.clear();
         self.table.resize(cap, BLANK)
     }
 
+    // Where no draft is kept, nothing is written: a stage has the room of a draft, whichever it is.
+    fn close(&mut self) {
+        if !matches!(self.stage, Stage::Unopened) {
+            self.stage = Stage::Unopened;
+        }
+    }
+
     fn nodes(&self) -> &[Entry] {
-        let count = self.count.min(self.table.len());
+        let count = self.count.unwrap_or(0).min(self.table.len());
         &self.table.as_slice()[0..count]
     }
 
     fn open<'a>(&'a mut self) -> Answer<'a> {
-        if let Stage::Nothing = self.stage {
+        let Some(count) = self.count else {
             return Answer::Skipped;
-        }
-        match open(&self.table, self.count) {
+        };
+        match open(&self.table, count) {
             Ok(draft) => {
                 self.stage = Stage::Opened(draft);
                 Answer::Open(Ok(()))
             }
             Err(malformed) => {
-                self.stage = Stage::Table;
+                self.close();
                 Answer::Open(Err(malformed))
             }
         }
@@ -188,38 +189,41 @@ impl Session {
         match &self.stage {
             Stage::Opened(draft) => Answer::Asked(Question::Check, check(draft)),
             Stage::Passed(checked) => Answer::Asked(Question::Check, check(checked.draft())),
-            Stage::Table | Stage::Nothing => Answer::Skipped,
+            Stage::Unopened => Answer::Skipped,
         }
     }
 
+    // A routine that has passed stays as it is, where it is.
     fn pass<'a>(&'a mut self) -> Answer<'a> {
-        let (stage, answer) = mem::replace(&mut self.stage, Stage::Nothing).pass();
+        match &self.stage {
+            Stage::Opened(_) => Answer::Asked(Question::Pass, self.pass_opened()),
+            Stage::Passed(_) => Answer::Asked(Question::Pass, Ok(())),
+            Stage::Unopened => Answer::Skipped,
+        }
+    }
+
+    fn pass_opened(&mut self) -> Result<(), Violation> {
+        let (stage, outcome) = mem::replace(&mut self.stage, Stage::Unopened).pass();
         self.stage = stage;
-        answer
+        outcome
     }
 }
 
 impl Stage {
-    // A routine that has passed stays as it is.
-    fn pass<'a>(self) -> (Stage, Answer<'a>) {
+    fn pass(self) -> (Stage, Result<(), Violation>) {
         match self {
             Stage::Opened(draft) => pass_draft(draft),
-            Stage::Passed(checked) => (
-                Stage::Passed(checked),
-                Answer::Asked(Question::Pass, Ok(())),
-            ),
-            Stage::Table => (Stage::Table, Answer::Skipped),
-            Stage::Nothing => (Stage::Nothing, Answer::Skipped),
+            stage => (stage, Ok(())),
         }
     }
 }
 
-fn pass_draft<'a>(draft: Draft) -> (Stage, Answer<'a>) {
-    let (stage, outcome) = match pass(draft) {
+// A draft that does not pass comes back.
+fn pass_draft(draft: Draft) -> (Stage, Result<(), Violation>) {
+    match pass(draft) {
         Ok(checked) => (Stage::Passed(checked), Ok(())),
         Err((draft, violation)) => (Stage::Opened(draft), Err(violation)),
-    };
-    (stage, Answer::Asked(Question::Pass, outcome))
+    }
 }
 
 impl Display for Question {

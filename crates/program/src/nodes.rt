@@ -14,32 +14,32 @@ pub fn entries(heap: Global, list: &str) -> Result<Vec<Entry>, RequestError> {
     let mut entries = Vec::new(heap);
     if list != "-" {
         for item in list.split('|') {
-            entries.push(entry(heap, item)?).map_err(AllocError::from)?;
+            let entry = entry(item).ok_or(RequestError::Malformed)?;
+            entries.push(entry).map_err(AllocError::from)?;
         }
     }
     Ok(entries)
 }
 
-fn entry(heap: Global, item: &str) -> Result<Entry, RequestError> {
-    let words: Vec<&str> = item.split(',').collect(heap)?;
-    entry_of(words.as_slice()).ok_or(RequestError::Malformed)
+// Whether the list writes entries: what `entries` would say, without room for them.
+pub fn is_table(list: &str) -> bool {
+    list == "-" || list.split('|').all(|item| entry(item).is_some())
 }
 
-fn entry_of(words: &[&str]) -> Option<Entry> {
-    let [kind, op, name, typ, value, first, second, third, place] = words else {
-        return None;
+fn entry(item: &str) -> Option<Entry> {
+    let mut words = item.split(',');
+    let entry = Entry {
+        kind: kind_code(words.next()?)?,
+        op: operator_code(words.next()?)?,
+        name: number(words.next()?)?,
+        typ: type_code(words.next()?)?,
+        value: signed(words.next()?)?,
+        first: number(words.next()?)?,
+        second: number(words.next()?)?,
+        third: number(words.next()?)?,
+        place: number(words.next()?)?,
     };
-    Some(Entry {
-        kind: kind_code(kind)?,
-        op: operator_code(op)?,
-        typ: type_code(typ)?,
-        name: number(name)?,
-        value: signed(value)?,
-        first: number(first)?,
-        second: number(second)?,
-        third: number(third)?,
-        place: number(place)?,
-    })
+    words.next().is_none().then_some(entry)
 }
 
 // The code of a kind, as the table writes a node of it; 0 is no kind.

@@ -1,7 +1,7 @@
 // What a line of a batch asks for.
 use crate::edition::Edition;
 use crate::fields::is_list;
-use crate::nodes::{entries, short};
+use crate::nodes::{entries, is_table, short};
 use numerals::hex::decode;
 use numerals::number::{integer, natural};
 use std::alloc::{AllocError, Global};
@@ -50,15 +50,19 @@ impl<'a> Request<'a> {
         line: &'a [u8],
         edition: Edition,
     ) -> Result<Request<'a>, RequestError> {
-        let request = Request::parse_any(heap, line)?;
+        let request = Request::parse_any(heap, line, edition)?;
         if edition == Edition::Reading && request.is_of_checking() {
             return Err(RequestError::Unsupported);
         }
         Ok(request)
     }
 
-    // What the line asks for in any edition.
-    fn parse_any(heap: Global, line: &'a [u8]) -> Result<Request<'a>, RequestError> {
+    // What the line asks for in any edition, but for a table, for which only an edition that has the call makes room.
+    fn parse_any(
+        heap: Global,
+        line: &'a [u8],
+        edition: Edition,
+    ) -> Result<Request<'a>, RequestError> {
         let line = std::str::from_utf8(line).map_err(|_| RequestError::Malformed)?;
         let words: Vec<&str> = line.split(' ').collect(heap)?;
         match words.as_slice() {
@@ -69,7 +73,7 @@ impl<'a> Request<'a> {
                 cap: size(cap)?,
                 text: bytes(heap, text)?,
             }),
-            ["raw", cap, count, list] => Ok(Request::Raw {
+            ["raw", cap, count, list] if edition == Edition::Checking => Ok(Request::Raw {
                 cap: size(cap)?,
                 count: size(count)?,
                 entries: entries(heap, list)?,
@@ -85,11 +89,7 @@ impl<'a> Request<'a> {
     fn is_of_checking(&self) -> bool {
         matches!(
             self,
-            Request::Verdict(_)
-                | Request::Raw { .. }
-                | Request::Open
-                | Request::Check
-                | Request::Pass
+            Request::Verdict(_) | Request::Open | Request::Check | Request::Pass
         )
     }
 }
@@ -103,7 +103,7 @@ fn bytes(heap: Global, word: &str) -> Result<Vec<u8>, RequestError> {
     }
 }
 
-// Why the words are no request: a call of no edition yet, or no call.
+// Why the words are no request: a call that is not offered, or no call.
 fn refused(words: &[&str]) -> RequestError {
     let is_call = match words {
         ["code" | "mount" | "stop" | "take" | "lists" | "cells"] => true,
@@ -111,6 +111,9 @@ fn refused(words: &[&str]) -> RequestError {
         ["translate", cap] => short(cap).is_some(),
         ["feed", value] => integer(value.as_bytes()).is_some(),
         ["run", grant] => natural(grant.as_bytes(), u32::MAX).is_some(),
+        ["raw", cap, count, list] => {
+            short(cap).is_some() && short(count).is_some() && is_table(list)
+        }
         ["rawcode", cap, count, list] => {
             short(cap).is_some() && short(count).is_some() && is_list(list)
         }

@@ -50,7 +50,7 @@ count_lines 5-travellers '\(?parser: &mut Parser<._>, table: &mut|text: &.a \[u8
 count_lines 6-arrays '^\s*(pub(\(crate\))? )?[a-z_]+: \[.*; .*\],|static \[u8\], Token'
 count_lines 7-switches 'fn (has|allows|character|fault)\('
 
-# Point 2: pairs of places that share six lines or more, by the tool `duplicates`, which reads files named .rs.
+# Point 2 of docs/DESIGN-PASS.md: pairs of places that share six lines or more, by the tool `duplicates`, which reads files named .rs.
 if command -v duplicates >/dev/null && { [ -z "$list" ] || [ "$list" = 2-twins ]; }; then
     copies=$(mktemp -d)
     for file in "${sources[@]}"; do
@@ -67,7 +67,7 @@ if command -v duplicates >/dev/null && { [ -z "$list" ] || [ "$list" = 2-twins ]
     fi
 fi
 
-# Point 8: lines of proofs.
+# Point 8 of docs/DESIGN-PASS.md: lines of proofs.
 if [ -z "$list" ]; then
     printf '%-22s %4d\n' 8-proof-lines "$(find crates/*/proofs -name '*.antt' -exec cat {} + | wc -l)"
     printf '%-22s %4d\n' 8-answer-files "$(find crates/*/proofs -name Answers.antt | wc -l)"
